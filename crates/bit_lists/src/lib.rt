@@ -1,0 +1,12 @@
+//! Lists of truth values in lexicographic order, and want of memory.
+//!
+//! A basis state is a list of bits with qubit 0 first. Lists are ordered lexicographically, 0 before 1.
+#![tactic(auto)]
+
+mod bits;
+mod out_of_memory;
+mod place;
+
+pub use bits::Bits;
+pub use out_of_memory::OutOfMemory;
+pub use place::{bit_of, with_bit};
