@@ -1,14 +1,17 @@
 //! Bit lists of at most 128 bits.
-ghost use Rattle.std.specs.Prelude.{◌≡◌, ◌<◌, ◌≤◌, ◌^◌, [], get_or, replicate, MatchOption, List, ℕ, Bool, length, false, slice_index_or, slice_set};
-ghost use Rattle.bit_lists.specs.Lists.{place_of, all_lists};
+ghost use Rattle.std.specs.Prelude.{◌≡◌, ◌≢◌, ◌<◌, ◌≤◌, ◌+◌, ◌^◌, ◌↔◌, [], ◌∷◌, ◌++◌, replicate, IsTrue, IsNone, IfSome, IfNone, List, Bool, true, false, length, slice_index_or, slice_set};
+ghost use Rattle.bit_lists.specs.Lists.{place_of, bit_value, bits_text, IsNext};
 
 use crate::place::{bit_of, with_bit};
 use std::marker::Model;
 
+/// The most bits that a list has.
+const MOST_BITS: usize = 128;
+
 /// A list of at most 128 truth values.
 ///
 /// It is kept as its place among the lists of its length, so that the next list in order is the next place.
-#[derive(Clone, Copy)]
+#[derive(Clone, Copy, Debug)]
 pub struct Bits {
     place: u128,
     count: u8,
@@ -31,6 +34,7 @@ impl Model for Bits {
 }
 
 impl Bits {
+    /// The list of `len` zeros.
     pub fn zeros(len: u8) -> Bits
         requires { len ≤ 128 }
         ensures { result ≡ replicate len false }
@@ -41,10 +45,34 @@ impl Bits {
         }
     }
 
+    /// The list that a text of `0` and `1` spells, the first bit first.
+    pub fn from_text(text: &[u8]) -> Option<Bits>
+        ensures found { IfSome result (λ x. text.now ≡ bits_text x) }
+        ensures none { IfNone result ((x : List Bool) → length x ≤ 128 → text.now ≢ bits_text x) }
+    {
+        if text.len() > MOST_BITS {
+            return None;
+        }
+        let mut bits = Bits::zeros(0);
+        for byte in text {
+            let Some(b) = bit_from(*byte) else {
+                return None;
+            };
+            bits = bits.with_last(b);
+        }
+        Some(bits)
+    }
+
     pub fn len(&self) -> u8
         ensures { result ≡ length self.now }
     {
         self.count
+    }
+
+    pub fn is_empty(&self) -> bool
+        ensures { IsTrue result ↔ (self.now ≡ []) }
+    {
+        self.len() == 0
     }
 
     pub fn get(&self, i: u8) -> bool
@@ -59,5 +87,71 @@ impl Bits {
         ensures { self.new ≡ slice_set self.old i b }
     {
         self.place = with_bit(self.count, self.place, i, b);
+    }
+
+    /// The next list of the same length, or None after the last one.
+    pub fn next_lex(self) -> Option<Bits>
+        ensures next { IfSome result (IsNext self) }
+        ensures place { IfSome result (λ y. place_of y ≡ place_of self + 1) }
+        ensures none { IsNone result ↔ (self ≡ replicate (length self) true) }
+    {
+        if self.place() == last_place(self.len()) {
+            return None;
+        }
+        Some(Bits::at(self.place() + 1, self.len()))
+    }
+
+    // The list with one more bit at its end.
+    fn with_last(self, b: bool) -> Bits
+        requires { length self < 128 }
+        ensures { result ≡ self ++ b ∷ [] }
+    {
+        let twice = self.place() * 2;
+        if b {
+            return Bits::at(twice + 1, self.len() + 1);
+        }
+        Bits::at(twice, self.len() + 1)
+    }
+
+    // Its place among the lists of its length.
+    fn place(&self) -> u128
+        ensures value { result ≡ place_of self.now }
+        ensures below { result < 2 ^ length self.now }
+    {
+        self.place
+    }
+
+    // The list at a place.
+    fn at(place: u128, count: u8) -> Bits
+        requires few { count ≤ 128 }
+        requires below { place < 2 ^ count }
+        ensures long { length result ≡ count }
+        ensures place { place_of result ≡ place }
+    {
+        Bits { place, count }
+    }
+}
+
+// The bit that a byte spells.
+fn bit_from(byte: u8) -> Option<bool>
+    ensures found { IfSome result (λ b. byte ≡ 48 + bit_value b) }
+    ensures none { IfNone result ((b : Bool) → byte ≢ 48 + bit_value b) }
+{
+    match byte {
+        b'0' => Some(false),
+        b'1' => Some(true),
+        _ => None,
+    }
+}
+
+// The last place among the lists of a length.
+fn last_place(count: u8) -> u128
+    requires { count ≤ 128 }
+    ensures { result + 1 ≡ 2 ^ count }
+{
+    if count == 128 {
+        u128::MAX
+    } else {
+        (1 << count) - 1
     }
 }

@@ -4,9 +4,14 @@
 #![tactic(auto)]
 
 mod bits;
+mod laws;
 mod out_of_memory;
 mod place;
 
 pub use bits::Bits;
+pub use laws::{lists_by_place, order_by_place};
 pub use out_of_memory::OutOfMemory;
 pub use place::{bit_of, with_bit};
+
+#[cfg(test)]
+mod tests;

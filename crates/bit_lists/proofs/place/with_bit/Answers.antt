@@ -1,5 +1,5 @@
-use Rattle.std.proofs.Common.{◌≡◌, ◌+◌, ◌-◌, ◌*◌, ◌^◌, ◌<◌, ◌≤◌, suc, ap, arith, false, true, Bool, subst, ◌∙◌, sym}
-use Rattle.bit_lists.specs.Lists.{bit_value, place_of}
+use Rattle.std.proofs.Common.{◌≡◌, ◌+◌, ◌-◌, ◌*◌, ◌^◌, ◌≤◌, suc, ap, arith, false, true}
+use Rattle.bit_lists.specs.Lists.{bit_value}
 use Rattle.std.proofs.Math.Pow.{pow_mono}
 use Rattle.bit_lists.proofs.place.with_bit.Goals as goal
 use Rattle.bit_lists.specs.Places.{changed, changed-in_range, changed-down, other_of_true, other_of_false}

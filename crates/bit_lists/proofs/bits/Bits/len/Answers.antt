@@ -1,4 +1,4 @@
-use Rattle.std.proofs.Common.{◌≡◌, ap, sym, ◌∙◌, length, []}
+use Rattle.std.proofs.Common.{ap, sym, ◌∙◌, length, []}
 use Rattle.bit_lists.specs.Places.{listed}
 use Rattle.bit_lists.proofs.bits.Bits.len.Goals as goal
 
