@@ -1,10 +1,9 @@
 -- Bounds on the coordinates of sums, differences and turned numbers.
-use Rattle.std.proofs.Common.{◌≡◌, ℕ, ◌+◌, zero, suc, ◌^◌, ◌<◌, ◌≤◌, refl, sym, ◌∙◌, subst, arith, ℤ, pos, neg_ℤ, ◌≤ℤ◌, FitsSigned}
-use Rattle.std.specs.Int.{w128}
+use Rattle.std.proofs.Common.{ℕ, ◌+◌, zero, suc, ◌^◌, ◌<◌, ◌≤◌, sym, subst, arith, neg_ℤ}
 use Rattle.std.proofs.lemmas.Int.{ints}
 use Rattle.ring_omega.specs.declared.quad.Quad.{Quad}
 use Rattle.ring_omega.specs.Ring.{quad, zero_quad, one_quad, sum_of, difference_of, times_power, omega_unit, Fits}
-use Rattle.ring_omega.specs.Bounds.{IsWithin, IntWithin}
+use Rattle.ring_omega.specs.Bounds.{IsWithin}
 use Rattle.ring_omega.proofs.RingLemmas.{times_omega-is}
 
 pub IsWithin-sum_of : (m n : ℕ) (p q : Quad) → IsWithin m p → IsWithin n q → IsWithin (m + n) (sum_of p q)

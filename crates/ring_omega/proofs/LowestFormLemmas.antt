@@ -1,11 +1,11 @@
 -- The computed lowest form is the lowest form.
-use Rattle.std.proofs.Common.{◌≡◌, ℕ, zero, suc, ◌+◌, ◌-◌, ◌<◌, ◌≤◌, ◌/◌, ◌%◌, refl, sym, ◌∙◌, ap, subst, ℤ, pos, negsuc, ◌+ℤ◌, ◌-ℤ◌, neg_ℤ, arith, Bool, true, false, cond, eq-eqb}
+use Rattle.std.proofs.Common.{◌≡◌, ℕ, zero, suc, ◌%◌, refl, sym, ◌∙◌, ap, ℤ, pos, negsuc, ◌+ℤ◌, ◌-ℤ◌, arith, Bool, true, false, cond, eq-eqb}
 use Rattle.std.proofs.lemmas.Int.{ints}
 use Rattle.std.proofs.lemmas.Bool.{eqb-true, and_parts}
 use Rattle.ring_omega.specs.declared.quad.Quad.{Quad}
-use Rattle.ring_omega.specs.Ring.{quad, product_of, times_power, root_of_two}
-use Rattle.ring_omega.specs.Value.{SameValue, IsLowestForm}
-use Rattle.ring_omega.specs.Private.{IsDivisible, SameParity}
+use Rattle.ring_omega.specs.Ring.{product_of, times_power, root_of_two}
+use Rattle.ring_omega.specs.Value.{IsLowestForm}
+use Rattle.ring_omega.specs.Private.{IsDivisible}
 use Rattle.ring_omega.specs.Lowest.{is_even, is_divisible, half, quotient, lowest_form}
 use Rattle.ring_omega.proofs.LowestLemmas.{product_of-root_cancel, times_power-product_of, least_where_stuck, lowest_form-unique, divides, divisible_parities}
 

@@ -1,10 +1,10 @@
 -- The laws of the ring: sums, products, powers and conjugates.
-use Rattle.std.proofs.Common.{◌≡◌, ℕ, zero, suc, ◌+◌, ◌*◌, refl, sym, ◌∙◌, ap, ℤ, pos, negsuc, ◌+ℤ◌, ◌-ℤ◌, ◌*ℤ◌, neg_ℤ, arith}
+use Rattle.std.proofs.Common.{◌≡◌, ℕ, zero, suc, ◌*◌, refl, sym, ◌∙◌, ap, ℤ, ◌+ℤ◌, ◌-ℤ◌, ◌*ℤ◌, neg_ℤ, arith}
 use Rattle.std.proofs.Math.Path.{ap₂}
 use Rattle.std.proofs.lemmas.Int.{ints}
-use borrow.Author.Differences.{up, down, same_in, product_is, sum_is_lem, neg_is}
+use borrow.Author.Differences.{up, down, product_is, sum_is_lem, neg_is}
 use Rattle.ring_omega.specs.declared.quad.Quad.{Quad}
-use Rattle.ring_omega.specs.Ring.{quad, zero_quad, one_quad, sum_of, difference_of, product_of, times_power, omega_unit, root_of_two, conjugate_of}
+use Rattle.ring_omega.specs.Ring.{quad, zero_quad, one_quad, sum_of, difference_of, product_of, times_power, omega_unit, conjugate_of}
 use Rattle.ring_omega.proofs.RingLemmas.{quad_eq, neg_neg, turned-4, turned-7, times_omega-is}
 
 -- integers first

@@ -1,10 +1,10 @@
 -- The ring's operations as linear maps, and the root of two as an injective one.
-use Rattle.std.proofs.Common.{◌≡◌, ℕ, zero, suc, ◌+◌, ◌-◌, ◌<◌, ◌≤◌, refl, sym, ◌∙◌, ap, ℤ, pos, negsuc, ◌+ℤ◌, ◌-ℤ◌, ◌*ℤ◌, neg_ℤ, FitsSigned, arith, Option, Some, None}
+use Rattle.std.proofs.Common.{◌≡◌, ◌∙◌, ap, ℤ, pos, ◌+ℤ◌, ◌-ℤ◌, neg_ℤ, FitsSigned, arith, Option, Some, None}
 use Rattle.std.specs.Option.{SomeIff}
 use Rattle.std.specs.Int.{w128}
 use Rattle.std.proofs.lemmas.Int.{ints}
 use Rattle.ring_omega.specs.declared.quad.Quad.{Quad}
-use Rattle.ring_omega.specs.Ring.{quad, zero_quad, sum_of, product_of, times_power, omega_unit, root_of_two, is_zero, Fits}
+use Rattle.ring_omega.specs.Ring.{quad, zero_quad, product_of, times_power, omega_unit, root_of_two, is_zero, Fits}
 use Rattle.std.proofs.lemmas.Bool.Decides.{Decides-like, Decides-and, Decides-int_eq}
 use Rattle.std.specs.Bool.{Decides}
 use Rattle.ring_omega.specs.Private.{all_of}

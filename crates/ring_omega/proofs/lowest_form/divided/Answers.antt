@@ -1,8 +1,7 @@
-use Rattle.std.proofs.Common.{rules, FitsSigned, ◌≡◌, arith, to_z, of_z, sym}
+use Rattle.std.proofs.Common.{rules, FitsSigned, arith, to_z, of_z}
 use Rattle.std.specs.Int.{w128}
 use Rattle.std.proofs.lemmas.Int.{ints}
 use Rattle.ring_omega.specs.Ring.{quad}
-use Rattle.ring_omega.specs.Private.{SameParity}
 use Rattle.ring_omega.proofs.lowest_form.divided.Goals as goal
 use Rattle.ring_omega.proofs.LowestLemmas.{divisible_parities, divides, passed_parity}
 

@@ -1,4 +1,4 @@
-use Rattle.std.proofs.Common.{rules, FitsSigned, ◌≡◌, subst, sym, IsTrue, Bool, true, false}
+use Rattle.std.proofs.Common.{rules, ◌≡◌, true}
 use Rattle.ring_omega.proofs.lowest_form.is_divisible.Goals as goal
 use Rattle.ring_omega.proofs.LowestLemmas.{divisible_parities, divisible-from_parities, passed_parity, kept_parity}
 

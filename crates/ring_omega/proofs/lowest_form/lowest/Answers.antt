@@ -1,6 +1,5 @@
-use Rattle.std.proofs.Common.{rules, ◌≡◌, ◌-◌, suc, refl, sym, ap, ◌∙◌, true, arith}
+use Rattle.std.proofs.Common.{◌≡◌, ◌-◌, suc, refl, sym, ap, ◌∙◌, true, arith}
 use Rattle.ring_omega.specs.Ring.{times_power, root_of_two}
-use Rattle.ring_omega.specs.Value.{IsLowestForm}
 use Rattle.ring_omega.proofs.lowest_form.lowest.Goals as goal
 use Rattle.ring_omega.proofs.LowestLemmas.{least_where_stuck, still_same, zero-lowest}
 use Rattle.ring_omega.proofs.LowestFormLemmas.{with_lowest_form}

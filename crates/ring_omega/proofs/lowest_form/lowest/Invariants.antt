@@ -1,4 +1,3 @@
-use Rattle.std.proofs.Common.{ℕ}
 use Rattle.ring_omega.specs.Value.{SameValue}
 use Rattle.ring_omega.proofs.lowest_form.lowest.Given as goal
 

@@ -1,4 +1,4 @@
-use Rattle.std.proofs.Common.{rules, FitsSigned, ◌+ℤ◌, ◌≡◌, arith}
+use Rattle.std.proofs.Common.{rules, FitsSigned, ◌≡◌, arith}
 use Rattle.std.specs.Int.{w128}
 use Rattle.std.proofs.lemmas.Int.{ints}
 use Rattle.ring_omega.proofs.parity.half_sum.Goals as goal

@@ -1,4 +1,4 @@
-use Rattle.std.proofs.Common.{rules, FitsSigned, ◌+ℤ◌, ◌-ℤ◌, ◌≡◌, arith, ap, eq-eqb, of_z}
+use Rattle.std.proofs.Common.{rules, FitsSigned, ◌-ℤ◌, ◌≡◌, arith, ap, eq-eqb, of_z}
 use Rattle.std.specs.Int.{w128}
 use Rattle.std.proofs.lemmas.Bool.{eqb-true}
 use Rattle.std.proofs.lemmas.Int.{ints}

@@ -1,4 +1,3 @@
-use Rattle.std.proofs.Common.{sym, subst, ◌≡◌, true}
 use Rattle.ring_omega.specs.Ring.{is_zero}
 use Rattle.ring_omega.proofs.quad.Quad.is_zero.Goals as goal
 use Rattle.ring_omega.proofs.RingLemmas.{Decides-is_zero}

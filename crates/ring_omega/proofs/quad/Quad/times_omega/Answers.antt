@@ -1,4 +1,4 @@
-use Rattle.std.proofs.Common.{rules, FitsSigned, refl, neg_ℤ, ◌≡◌, arith, to_z, of_z, Some}
+use Rattle.std.proofs.Common.{rules, FitsSigned, neg_ℤ, ◌≡◌, arith, to_z, of_z, Some}
 use Rattle.std.specs.Int.{w128}
 use Rattle.std.proofs.lemmas.Int.{to_z-of_z}
 use Rattle.ring_omega.specs.Ring.{quad}
