@@ -1,0 +1,5 @@
+pub mod RingLemmas
+pub mod RingLaws
+pub mod BoundLemmas
+pub mod LowestLemmas
+pub mod LowestFormLemmas
