@@ -1,0 +1,4 @@
+pub mod Buffering
+pub mod Bytes
+pub mod Memory
+pub mod Outside
