@@ -1,0 +1,21 @@
+//! Laws of the definitions, each the contract of a call that does nothing.
+ghost use Rattle.std.specs.Prelude.{◌≡◌, ◌+◌, ◌∷◌, List, Option, ℕ};
+ghost use Rattle.qasm_lex.specs.Lexemes.{AreTokens, Begins};
+ghost use Rattle.qasm_lex.specs.declared.token.Token.{Token};
+ghost use Rattle.qasm_lex.specs.declared.pieces.Form.{Form};
+ghost use Rattle.qasm_lex.specs.declared.pieces.Form.TheVariants.{Comment};
+
+/// Each text can be cut into tokens up to a bad place or its end.
+pub fn every_text_has_tokens()
+    ensures { (text : List ℕ) → (list : List Token) × (bad : Option ℕ) × AreTokens text list bad }
+{}
+
+/// A text has one list of tokens and one bad place.
+pub fn tokens_are_unique()
+    ensures { (text : List ℕ) (list more : List Token) (bad worse : Option ℕ) → AreTokens text list bad → AreTokens text more worse → (list ≡ more) × (bad ≡ worse) }
+{}
+
+/// Where a piece of a text could begin, two slashes begin a comment.
+pub fn slashes_begin_a_comment()
+    ensures { (more : List ℕ) (form : Form) (n : ℕ) → Begins (47 ∷ 47 ∷ more) form n → form ≡ Comment }
+{}

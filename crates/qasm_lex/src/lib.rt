@@ -1,0 +1,16 @@
+//! Tokens of OpenQASM 2.0, and exact angles.
+//!
+//! A text is cut into tokens in one pass; a list of tokens is read as an exact fraction of π.
+#![tactic(auto)]
+
+mod bytes;
+mod laws;
+mod pieces;
+mod scanning;
+#[cfg(test)]
+mod tests;
+mod token;
+
+pub use laws::{every_text_has_tokens, slashes_begin_a_comment, tokens_are_unique};
+pub use scanning::tokens;
+pub use token::{Token, TokenKind, Tokens};
