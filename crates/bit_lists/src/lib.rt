@@ -5,12 +5,16 @@
 
 mod bits;
 mod laws;
+mod order;
 mod out_of_memory;
+mod partial;
 mod place;
 
 pub use bits::Bits;
 pub use laws::{lists_by_place, order_by_place};
+pub use order::Order;
 pub use out_of_memory::OutOfMemory;
+pub use partial::Partial;
 pub use place::{bit_of, with_bit};
 
 #[cfg(test)]

@@ -1,0 +1,95 @@
+-- Bit lists of which some bits are left open.
+use Rattle.std.proofs.Common.{◌≡◌, ◌⊎◌, inl, inr, ℕ, zero, suc, ◌+◌, ◌<◌, ◌≤◌, Bool, true, false, cond, ◌&&◌, List, [], ◌∷◌, map, length, Option, None, Some, is_some, refl, sym, ◌∙◌, ap, arith, set, get_or, replicate}
+use Rattle.std.proofs.lemmas.Bool.{cases_Bool}
+use mathlib.Core.Bool.{beq}
+
+-- whether the value is free, or fixed to b
+abbrev pub fits : Option Bool → Bool → Bool
+fits None b = true
+fits (Some a) b = beq a b
+
+-- whether each fixed value of p is the bit of x
+abbrev pub agrees : List (Option Bool) → List Bool → Bool
+agrees (v ∷ p) (b ∷ x) = fits v b && agrees p x
+agrees p x = true
+
+-- the bit of a fixed value, and false for a free one
+abbrev pub value_of : Option Bool → Bool
+value_of None = false
+value_of (Some b) = b
+
+abbrev pub are_fixed : List (Option Bool) → List Bool
+are_fixed p = map is_some p
+
+abbrev pub values_of : List (Option Bool) → List Bool
+values_of p = map value_of p
+
+-- the values, from which of them are fixed and to what
+abbrev pub partial_of : List Bool → List Bool → List (Option Bool)
+partial_of (k ∷ ks) (b ∷ bs) = cond k (Some b) None ∷ partial_of ks bs
+partial_of _ _ = []
+
+-- how a partial list is kept: a free value is kept as false
+abbrev pub IsKept : List Bool → List Bool → Type 0
+IsKept [] [] = Unit {0}
+IsKept (k ∷ ks) (b ∷ bs) = (k ≡ false → b ≡ false) × IsKept ks bs
+IsKept ks bs = ⊥
+
+pub kept_inverse : (ks bs : List Bool) → IsKept ks bs → (are_fixed (partial_of ks bs) ≡ ks) × (values_of (partial_of ks bs) ≡ bs)
+kept_inverse [] [] h = (refl, refl)
+kept_inverse [] (b ∷ bs) h = absurd h
+kept_inverse (k ∷ ks) [] h = absurd h
+kept_inverse (true ∷ ks) (b ∷ bs) h = let r = kept_inverse ks bs h.1 in (ap (λ l. true ∷ l) r.0, ap (λ l. b ∷ l) r.1)
+kept_inverse (false ∷ ks) (b ∷ bs) h =
+    let r = kept_inverse ks bs h.1 in
+    (ap (λ l. false ∷ l) r.0, ap (λ l. false ∷ l) r.1 ∙ ap (λ a. a ∷ bs) (sym (h.0 refl)))
+
+pub length-kept : (ks bs : List Bool) → IsKept ks bs → (length bs ≡ length ks) × (length (partial_of ks bs) ≡ length ks)
+length-kept [] [] h = (refl, refl)
+length-kept [] (b ∷ bs) h = absurd h
+length-kept (k ∷ ks) [] h = absurd h
+length-kept (k ∷ ks) (b ∷ bs) h = let r = length-kept ks bs h.1 in (omega (arith, r.0), omega (arith, r.1))
+
+pub get_or-partial_of : (ks bs : List Bool) (i : ℕ) → IsKept ks bs → i < length ks → get_or (partial_of ks bs) i None ≡ cond (get_or ks i false) (Some (get_or bs i false)) None
+get_or-partial_of [] bs i h lt = absurd (omega arith)
+get_or-partial_of (k ∷ ks) [] i h lt = absurd h
+get_or-partial_of (k ∷ ks) (b ∷ bs) zero h lt = refl
+get_or-partial_of (k ∷ ks) (b ∷ bs) (suc i) h lt = get_or-partial_of ks bs i h.1 (omega arith)
+
+pub kept-free : (n : ℕ) → IsKept (replicate n false) (replicate n false) × (partial_of (replicate n false) (replicate n false) ≡ replicate n None)
+kept-free zero = (tt, refl)
+kept-free (suc n) = let r = kept-free n in ((λ e. refl, r.0), ap (λ l. None ∷ l) r.1)
+
+fixed_false : (v : Option Bool) → is_some v ≡ false → value_of v ≡ false
+fixed_false None e = refl
+fixed_false (Some b) e = cc
+
+same_value : (v : Option Bool) → cond (is_some v) (Some (value_of v)) None ≡ v
+same_value None = refl
+same_value (Some b) = refl
+
+pub kept-fix : (ks bs : List Bool) (i : ℕ) (v : Option Bool) → IsKept ks bs → i < length ks → IsKept (set ks i (is_some v)) (set bs i (value_of v)) × (partial_of (set ks i (is_some v)) (set bs i (value_of v)) ≡ set (partial_of ks bs) i v)
+kept-fix [] bs i v h lt = absurd (omega arith)
+kept-fix (k ∷ ks) [] i v h lt = absurd h
+kept-fix (k ∷ ks) (b ∷ bs) zero v h lt = ((fixed_false v, h.1), ap (λ w. w ∷ partial_of ks bs) (same_value v))
+kept-fix (k ∷ ks) (b ∷ bs) (suc i) v h lt =
+    let r = kept-fix ks bs i v h.1 (omega arith) in
+    ((h.0, r.0), ap (λ l. cond k (Some b) None ∷ l) r.1)
+
+-- a list that agrees at each place agrees
+pub agrees_all : (p : List (Option Bool)) (x : List Bool) → length x ≡ length p → ((i : ℕ) → i < length p → fits (get_or p i None) (get_or x i false) ≡ true) → agrees p x ≡ true
+agrees_all [] x len all = refl
+agrees_all (v ∷ p) [] len all = refl
+agrees_all (v ∷ p) (b ∷ x) len all =
+    ap (λ c. c && agrees p x) (all 0 (omega arith)) ∙ agrees_all p x (omega arith) (λ i lt. all (suc i) (omega arith))
+
+-- a list that differs from a fixed value doesn't agree
+pub agrees_not : (p : List (Option Bool)) (x : List Bool) (i : ℕ) → length x ≡ length p → i < length p → fits (get_or p i None) (get_or x i false) ≡ false → agrees p x ≡ false
+agrees_not [] x i len lt e = absurd (omega arith)
+agrees_not (v ∷ p) [] i len lt e = absurd (omega arith)
+agrees_not (v ∷ p) (b ∷ x) zero len lt e = ap (λ c. c && agrees p x) e
+agrees_not (v ∷ p) (b ∷ x) (suc i) len lt e =
+    elim (cases_Bool (fits v b)) [
+      | inl t ↦ ap (λ c. c && agrees p x) t ∙ agrees_not p x i (omega arith) (omega arith) e
+      | inr f ↦ ap (λ c. c && agrees p x) f
+    ]

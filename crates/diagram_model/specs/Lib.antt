@@ -1,0 +1,5 @@
+pub mod Functions
+pub mod Nodes
+pub mod Reach
+pub mod Size
+pub mod Stores

@@ -1,0 +1,9 @@
+//! The theory of ordered decision diagrams: what nodes denote, canonicity, and sizes.
+//!
+//! Definitions stand in `specs/`, lemmas for the crates above in `proofs/`. A node is a number: 0 is
+//! the constant false, 1 the constant true, and the others are held with a variable and two children.
+#![tactic(auto)]
+
+mod parts;
+
+pub use parts::Parts;
