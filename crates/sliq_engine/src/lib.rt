@@ -1,0 +1,4 @@
+//! The top call: one command on the texts of a shelf, its output on a sink.
+#![tactic(auto)]
+
+mod plain_text;
