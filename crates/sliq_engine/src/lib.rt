@@ -2,3 +2,4 @@
 #![tactic(auto)]
 
 mod plain_text;
+mod simulation;
