@@ -1,0 +1,3 @@
+pub mod MatrixLemmas
+pub mod CircuitLemmas
+pub mod UnitaryLemmas
