@@ -18,6 +18,10 @@ place_of name files = position (λ file. bytes_eq file.name name) files
 abbrev pub text_at : List NamedText → ℕ → List ℕ
 text_at files place = option_map_or (λ file. file.text) (slice_get files place) []
 
+-- the text at a place that may be none, and then the empty text
+abbrev pub text_in : List NamedText → Option ℕ → List ℕ
+text_in files place = option_map_or (text_at files) place []
+
 -- what a shelf in memory holds
 pub record Shelved : Type 0 where
   pub files : List NamedText
@@ -70,6 +74,16 @@ pub record IsSameShelf (old new : Shelved) : Type 0 where
 pub record HasSameFaults (old new : Shelved) : Type 0 where
   pub faults : new.faults ≡ old.faults
   pub missing : new.missing ≡ old.missing
+
+-- what a shelf in memory holds that never fails
+pub record Calm : Type 0 where
+  pub files : List NamedText
+  -- the place of the begun file, or none for the empty text
+  pub current : Option ℕ
+  pub ready : Bool
+  pub left : List ℕ
+  pub taken : ℕ
+  pub ended : Bool
 
 -- what a sink in memory holds
 pub record Sunk : Type 0 where

@@ -1,28 +1,14 @@
 //! A shelf in memory, which fails where it is told to.
 ghost use Rattle.std.specs.Prelude.{◌≡◌, ◌↔◌, ◌⊎◌, ◌≤◌, ◌<◌, ◌-◌, ◌+◌, ◌++◌, [], None, Some, false, min, take, drop, length, replicate, is_some, is_err, IsTrue, IsOk, IfSome, IfOk, OnOk, OnErr};
-ghost use Rattle.outside.specs.Memory.{place_of, is_next_bad};
+ghost use Rattle.outside.specs.Memory.{is_next_bad};
 ghost use Rattle.outside.specs.Outside.{raised, Rose, SameTexts, NoneFalls, BegunRose, SameBegun, Gives, GivesEnd};
 
-use crate::{Failed, Shelf};
+use crate::bad_calls::is_next_bad;
+use crate::named::{find, give};
+use crate::{Failed, Named, Shelf};
 use bit_lists::OutOfMemory;
 use std::alloc::Global;
 use std::marker::Model;
-
-/// A text with its name.
-#[derive(Drop)]
-pub struct Named {
-    pub name: String,
-    pub text: Vec<u8>,
-}
-
-impl Model for Named {
-    ghost use Rattle.std.specs.Prelude.{string_bytes};
-    ghost use Rattle.outside.specs.Memory.{NamedText};
-
-    ghost Value = { NamedText };
-
-    ghost view = { λ f. record { name = string_bytes f.name; text = f.text.items } };
-}
 
 /// A shelf that tells its texts.
 ///
@@ -216,32 +202,4 @@ impl Shelf for MemoryShelf {
         self.ended = self.ended || (count == 0 && !buf.is_empty());
         Ok(count)
     }
-}
-
-// The place of the first file of this name.
-fn find(files: &[Named], name: &str) -> Option<usize>
-    ensures { result ≡ place_of name.now files.now }
-{
-    files.iter().position(|file| file.name.as_str() == name)
-}
-
-// The next call after so many is one of those that fail.
-pub fn is_next_bad(calls: u64, bad: &[u32]) -> bool
-    ensures { result ≡ is_next_bad calls bad.now }
-{
-    let next = calls.saturating_add(1);
-    bad.iter().any(|number| u64::from(*number) == next)
-}
-
-// Gives the next bytes of a text.
-fn give(text: &[u8], at: usize, most: usize, buf: &mut [u8]) -> usize
-    requires at { at ≤ length text.now }
-    requires some { 1 ≤ most }
-    ensures count { result ≡ min (min (length buf.old) most) (length text.now - at) }
-    ensures bytes { drop at text.now ≡ take result buf.new ++ drop (at + result) text.now }
-    ensures end { result ≡ 0 → 0 < length buf.old → drop at text.now ≡ [] }
-{
-    let count = buf.len().min(most).min(text.len() - at);
-    buf[..count].copy_from_slice(&text[at..at + count]);
-    count
 }

@@ -4,7 +4,7 @@ ghost use Rattle.outside.specs.Memory.{is_next_bad};
 ghost use Rattle.outside.specs.Outside.{raised, Rose};
 ghost use Rattle.outside.specs.Bytes.{Added};
 
-use crate::memory_shelf::is_next_bad;
+use crate::bad_calls::is_next_bad;
 use crate::{Failed, Sink};
 use bit_lists::OutOfMemory;
 use std::alloc::Global;
