@@ -4,13 +4,18 @@
 #![tactic(auto)]
 
 mod bytes;
+mod divisor;
+mod fraction;
 mod laws;
 mod pieces;
+mod refusal;
 mod scanning;
 #[cfg(test)]
 mod tests;
 mod token;
 
+pub use fraction::Fraction;
 pub use laws::{every_text_has_tokens, slashes_begin_a_comment, tokens_are_unique};
+pub use refusal::AngleRefusal;
 pub use scanning::tokens;
 pub use token::{Token, TokenKind, Tokens};

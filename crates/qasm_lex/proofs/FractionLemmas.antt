@@ -1,0 +1,98 @@
+-- Fractions in lowest terms.
+use Rattle.std.proofs.Common.{◌≡◌, ◌∙◌, sym, ap, refl, ◌≤◌, ◌<◌, ℕ, zero, suc, ◌+◌, ◌*◌, ◌/◌, ◌%◌, Bool, true, false, arith, subst, ℤ, pos, negsuc, neg_ℤ, ◌≤ℤ◌, ◌<ℤ◌, ◌+ℤ◌, ◌*ℤ◌, unsigned_abs, int_div, FitsSigned, nat_eq, ◌^◌, ◌-ℤ◌, to_z, of_z}
+use Rattle.std.specs.Int.{w64, w128}
+use Rattle.std.specs.Int.Signed.{lt_z}
+use Rattle.std.proofs.lemmas.Int.{to_z-of_z, fits_signed_from_abs, ints}
+use Rattle.std.proofs.Math.Nat.{mul-pos}
+use Rattle.qasm_lex.specs.Fractions.{ greatest_divisor, lowest, IsReduced, most, is_zero}
+use Rattle.qasm_lex.proofs.Divisors.{greatest_divisor-gcd, greatest_divisor-some, greatest_divisor-lowest, greatest_divisor-swap, greatest_divisor-one, divided_some}
+
+unsigned_abs-neg : (n : ℕ) → unsigned_abs (neg_ℤ (pos n)) ≡ n
+unsigned_abs-neg zero = refl
+unsigned_abs-neg (suc n) = refl
+
+pub unsigned_abs-opposite : (z : ℤ) → unsigned_abs (neg_ℤ z) ≡ unsigned_abs z
+unsigned_abs-opposite (pos zero) = refl
+unsigned_abs-opposite (pos (suc n)) = refl
+unsigned_abs-opposite (negsuc n) = refl
+
+pub unsigned_abs-div : (z : ℤ) (g : ℕ) → unsigned_abs (int_div z (pos g)) ≡ unsigned_abs z / g
+unsigned_abs-div (pos n) g = refl
+unsigned_abs-div (negsuc n) g = unsigned_abs-neg (suc n / g)
+
+pub positive_abs : (z : ℤ) → pos 1 ≤ℤ z → 0 < unsigned_abs z
+positive_abs z h = omega (arith, ints)
+
+pub abs_below : (z : ℤ) → pos 1 ≤ℤ z → FitsSigned w128 z → unsigned_abs z < 2 ^ 127
+abs_below z h f = omega (arith, ints)
+
+positive_div : (d : ℤ) (g : ℕ) → pos 1 ≤ℤ d → 0 < unsigned_abs d / g → pos 1 ≤ℤ int_div d (pos g)
+positive_div (pos n) g h p = omega (arith, ints)
+positive_div (negsuc n) g h p = absurd (omega (arith, ints))
+
+-- the denominator in lowest terms is positive
+pub lowest_positive : (n d : ℤ) → pos 1 ≤ℤ d → pos 1 ≤ℤ int_div d (pos (greatest_divisor (unsigned_abs n) (unsigned_abs d)))
+lowest_positive n d h =
+    let g = greatest_divisor-gcd (unsigned_abs n) (unsigned_abs d) (positive_abs d h) in
+    positive_div d _ h (divided_some (unsigned_abs d) _ (positive_abs d h) g.1)
+
+-- and the parts have no common divisor
+pub lowest_coprime : (n d : ℤ) → pos 1 ≤ℤ d
+    → greatest_divisor (unsigned_abs (int_div n (pos (greatest_divisor (unsigned_abs n) (unsigned_abs d))))) (unsigned_abs (int_div d (pos (greatest_divisor (unsigned_abs n) (unsigned_abs d))))) ≡ 1
+lowest_coprime n d h =
+    let g = greatest_divisor (unsigned_abs n) (unsigned_abs d) in
+    rw (unsigned_abs-div n g, unsigned_abs-div d g) (greatest_divisor-lowest (unsigned_abs n) (unsigned_abs d) (positive_abs d h))
+
+-- the product of two denominators
+pub product_positive : (a b : ℤ) → pos 1 ≤ℤ a → pos 1 ≤ℤ b → pos 1 ≤ℤ (a *ℤ b)
+product_positive (pos a) (pos b) p q = let pa : 0 < a = omega (arith, ints) in let pb : 0 < b = omega (arith, ints) in let m = mul-pos pa pb in omega (arith, ints)
+product_positive (pos a) (negsuc b) p q = absurd (omega (arith, ints))
+product_positive (negsuc a) b p q = absurd (omega (arith, ints))
+
+pub negative_reduced : (n d : ℤ) → IsReduced n d → IsReduced (neg_ℤ n) d
+negative_reduced n d r = record {
+  positive = r.positive;
+  num_narrow = subst (λ x. x ≤ most) (sym (unsigned_abs-opposite n)) r.num_narrow;
+  den_narrow = r.den_narrow;
+  lowest_terms = ap (λ x. greatest_divisor x (unsigned_abs d)) (unsigned_abs-opposite n) ∙ r.lowest_terms;
+}
+
+pub reciprocal_reduced : (n d : ℤ) → IsReduced n d → pos 1 ≤ℤ n → IsReduced d n
+reciprocal_reduced n d r p = record {
+  positive = p;
+  num_narrow = r.den_narrow;
+  den_narrow = r.num_narrow;
+  lowest_terms = greatest_divisor-swap (unsigned_abs d) (unsigned_abs n) (positive_abs d r.positive) (positive_abs n p) ∙ r.lowest_terms;
+}
+
+pub whole_reduced : (n : ℤ) → unsigned_abs n ≤ most → IsReduced n (pos 1)
+whole_reduced n h = record { positive = omega (arith, ints); num_narrow = h; den_narrow = omega arith; lowest_terms = greatest_divisor-one (unsigned_abs n) }
+
+pub negative_reciprocal_reduced : (n d : ℤ) → IsReduced n d → n <ℤ pos 0 → IsReduced (neg_ℤ d) (neg_ℤ n)
+negative_reciprocal_reduced (pos n) d r h = absurd (omega (arith, ints))
+negative_reciprocal_reduced (negsuc n) d r h = negative_reduced d (pos (suc n)) (reciprocal_reduced (pos (suc n)) d (record { positive = r.positive; num_narrow = r.num_narrow; den_narrow = r.den_narrow; lowest_terms = r.lowest_terms }) (omega (arith, ints)))
+
+-- what the code's casts and operations give
+pub divided_is : (r x k : ℤ) (g : ℕ) → FitsSigned w128 r → FitsSigned w128 x → FitsSigned w128 k
+    → r ≡ int_div (to_z w128 (of_z w128 x)) (to_z w128 (of_z w128 k)) → k ≡ pos g → to_z w128 (of_z w128 r) ≡ int_div x (pos g)
+divided_is r x k g fr fx fk e f =
+    to_z-of_z w128 r fr ∙ e ∙ ap (λ z. int_div z (to_z w128 (of_z w128 k))) (to_z-of_z w128 x fx) ∙ ap (λ z. int_div x z) (to_z-of_z w128 k fk ∙ f)
+
+pub kept_is : (x : ℤ) → unsigned_abs x ≤ most → to_z w64 (of_z w64 x) ≡ x
+kept_is x h = to_z-of_z w64 x (fits_signed_from_abs w64 x (omega arith))
+
+pub negated_is : (x : ℤ) → unsigned_abs x ≤ most → to_z w64 (of_z w64 (pos 0 -ℤ to_z w64 (of_z w64 x))) ≡ neg_ℤ x
+negated_is x h = omega (arith, ints)
+
+pub common_is : (k n d : ℤ) → FitsSigned w128 n → FitsSigned w128 d → k ≡ pos (greatest_divisor (unsigned_abs (to_z w128 (of_z w128 n))) (unsigned_abs (to_z w128 (of_z w128 d))))
+    → k ≡ pos (greatest_divisor (unsigned_abs n) (unsigned_abs d))
+common_is k n d fn fd e =
+    e ∙ ap (λ x. pos (greatest_divisor (unsigned_abs x) (unsigned_abs (to_z w128 (of_z w128 d))))) (to_z-of_z w128 n fn)
+    ∙ ap (λ y. pos (greatest_divisor (unsigned_abs n) (unsigned_abs y))) (to_z-of_z w128 d fd)
+
+-- what a test of the sign tells
+pub tested_negative : (x : ℤ) → unsigned_abs x ≤ most → lt_z (to_z w64 (of_z w64 x)) (pos 0) ≡ true → x <ℤ pos 0
+tested_negative x h t = grind (arith, ints)
+
+pub tested_positive : (x : ℤ) → unsigned_abs x ≤ most → nat_eq (unsigned_abs x) 0 ≡ false → lt_z (to_z w64 (of_z w64 x)) (pos 0) ≡ false → pos 1 ≤ℤ x
+tested_positive x h z t = grind (arith, ints)
