@@ -267,3 +267,15 @@ exchange_kept n vs ps p q u l kept next lt at_p at_q =
       kept_exchange n vs ps (set (set vs p l) q u) (set (set ps l p) u q) p q u l kept (omega arith) lt (λ e. absurd (omega arith)) at_p at_q wrote placed,
       rw (sym at_p, sym at_q, step) view,
     )
+
+-- the natural order is one
+pub natural_is_order : (n : ℕ) → IsOrder (range_with_len 0 n)
+natural_is_order n =
+    let len : length (range_with_len 0 n) ≡ n = length-range_with_len 0 n in
+    let at : (i : ℕ) → i < n → get_or (range_with_len 0 n) i 0 ≡ i = λ i lt. get_or-range_with_len 0 n i 0 lt ∙ omega arith in
+    record {
+      once = are_vars (length (range_with_len 0 n)) (range_with_len 0 n)
+        (λ i lt. let h : i < n = omega arith in omega (arith, at i h))
+        (λ i j hi hj e. sym (at i (omega arith)) ∙ e ∙ at j (omega arith));
+      all = λ v lt. let h : v < n = omega arith in has_at (range_with_len 0 n) v v lt (at v h);
+    }

@@ -1,0 +1,36 @@
+-- How slots are kept: a slab, and a table for each variable.
+use Rattle.std.specs.Prelude.{◌≡◌, ℕ, ◌-◌, cond, nat_le, min, List, [], ◌∷◌, map, length, Option, Some, None, slice_index_or}
+use Rattle.slab.specs.Slab.{Slab, slab_len}
+use Rattle.diagram_model.specs.declared.parts.Parts.{Parts}
+use Rattle.diagram_model.specs.Nodes.{parts_of}
+use Rattle.tables.specs.NodeTable.{TableValue, found}
+use Rattle.node_store.specs.declared.slots.Slots.TheInside.{Inside}
+use Rattle.node_store.specs.Slots.{Slotted, IsSlotted, parts}
+
+-- room for a node of a variable is room in the slab and in the variable's table; a slab that grew
+-- past the numbers of nodes has none
+abbrev pub spare_in : Slab Parts → TableValue → ℕ
+spare_in nodes table = cond (nat_le nodes.capacity 4000000000) (min table.spare (nodes.capacity - slab_len nodes)) 0
+
+abbrev pub view_of : Inside → Slotted
+view_of a = record {
+  diagram = record { order = a.order; limit = a.limit; slots = None ∷ None ∷ a.nodes.slots };
+  spares = map (spare_in a.nodes) a.tables.items;
+}
+
+-- the table of a variable
+abbrev pub table_at : List TableValue → ℕ → TableValue
+table_at ts v = slice_index_or ts v (record { entries = []; spare = 0 })
+
+-- a table finds the node of these parts, and no other
+pub record Finds (slots : List (Option Parts)) (ts : List TableValue) (v low high n : ℕ) : Type 0 where
+  pub right : found (table_at ts v) low high ≡ Some n → parts_of slots n ≡ Some (parts v low high)
+  pub whole : parts_of slots n ≡ Some (parts v low high) → found (table_at ts v) low high ≡ Some n
+
+abbrev pub AreIndexed : List (Option Parts) → List TableValue → Type 0
+AreIndexed slots ts = (v low high n : ℕ) → Finds slots ts v low high n
+
+pub record IsStored (a : Inside) : Type 0 where
+  pub slotted : IsSlotted (view_of a).diagram
+  pub tables : length a.tables.items ≡ length a.order
+  pub indexed : AreIndexed (None ∷ None ∷ a.nodes.slots) a.tables.items

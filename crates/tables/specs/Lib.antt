@@ -1,0 +1,3 @@
+pub mod NodeTable
+pub mod Probing
+pub mod Stored
