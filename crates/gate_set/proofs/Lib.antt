@@ -1,3 +1,4 @@
 pub mod MatrixLemmas
 pub mod CircuitLemmas
+pub mod TableLemmas
 pub mod UnitaryLemmas

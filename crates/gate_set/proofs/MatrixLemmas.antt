@@ -1,8 +1,12 @@
--- Kinds, their arities and their inverses.
-use Rattle.std.proofs.Common.{◌≡◌, ℕ, ◌≤◌, refl, sym, ◌∙◌, List, arith}
+-- Kinds, their arities, their entries and their inverses.
+use Rattle.std.proofs.Common.{◌≡◌, ℕ, zero, suc, ◌≤◌, refl, sym, ◌∙◌, Bool, true, nat_le, List, [], ◌∷◌, get_or, arith}
+use Rattle.std.specs.List.{list_all}
+use Rattle.std.proofs.lemmas.Bool.{leb-true, and_parts}
 use Rattle.gate_set.specs.declared.kind.Kind.{Kind}
 use Rattle.gate_set.specs.declared.kind.Kind.TheVariants.{Id, X, Y, Z, H, S, Sdg, T, Tdg, RxP, RxM, RyP, RyM, Cx, Cz, Swap, Ccx, Cswap}
-use Rattle.gate_set.specs.Matrix.{arity_of, inverse_of}
+use Rattle.gate_set.specs.declared.entry.Entry.{Entry}
+use Rattle.gate_set.specs.declared.entry.Entry.TheVariants.{Zero, Omega}
+use Rattle.gate_set.specs.Matrix.{arity_of, inverse_of, matrix_of, entry_of, IsReduced}
 use Rattle.gate_set.specs.Shape.{IsPlaced, Placement, IsOn}
 use Rattle.gate_set.specs.Circuits.{inverse_gate}
 
@@ -53,3 +57,48 @@ IsPlaced-inverse k on p = record { count = p.count ∙ sym (arity_of-inverse_of 
 
 pub IsOn-inverse : (n : ℕ) (g : Placement) → IsOn n g → IsOn n (inverse_gate g)
 IsOn-inverse n g p = record { placed = IsPlaced-inverse g.kind g.on p.placed; below = p.below }
+
+-- no power of ω in the table is above the seventh
+is_reduced : Entry → Bool
+is_reduced Zero = true
+is_reduced (Omega j) = nat_le j 7
+
+reduced_entry : (e : Entry) → is_reduced e ≡ true → IsReduced e
+unfolding is_reduced
+reduced_entry Zero t = tt
+reduced_entry (Omega j) t = leb-true j 7 t
+
+reduced_row : (r : List Entry) (i : ℕ) → list_all is_reduced r ≡ true → IsReduced (get_or r i Zero)
+reduced_row [] i t = tt
+reduced_row (e ∷ r) zero t = reduced_entry e (and_parts (is_reduced e) (list_all is_reduced r) t).0
+reduced_row (e ∷ r) (suc i) t = reduced_row r i (and_parts (is_reduced e) (list_all is_reduced r) t).1
+
+reduced_rows : (m : List (List Entry)) (i j : ℕ) → list_all (list_all is_reduced) m ≡ true → IsReduced (get_or (get_or m i []) j Zero)
+reduced_rows [] i j t = tt
+reduced_rows (r ∷ m) zero j t = reduced_row r j (and_parts (list_all is_reduced r) (list_all (list_all is_reduced) m) t).0
+reduced_rows (r ∷ m) (suc i) j t = reduced_rows m i j (and_parts (list_all is_reduced r) (list_all (list_all is_reduced) m) t).1
+
+reduced_matrix : (k : Kind) → list_all (list_all is_reduced) (matrix_of k) ≡ true
+unfolding is_reduced matrix_of
+reduced_matrix Id = refl
+reduced_matrix X = refl
+reduced_matrix Y = refl
+reduced_matrix Z = refl
+reduced_matrix H = refl
+reduced_matrix S = refl
+reduced_matrix Sdg = refl
+reduced_matrix T = refl
+reduced_matrix Tdg = refl
+reduced_matrix RxP = refl
+reduced_matrix RxM = refl
+reduced_matrix RyP = refl
+reduced_matrix RyM = refl
+reduced_matrix Cx = refl
+reduced_matrix Cz = refl
+reduced_matrix Swap = refl
+reduced_matrix Ccx = refl
+reduced_matrix Cswap = refl
+
+pub IsReduced-entry_of : (k : Kind) (row col : ℕ) → IsReduced (entry_of k row col)
+unfolding entry_of
+IsReduced-entry_of k row col = reduced_rows (matrix_of k) row col (reduced_matrix k)

@@ -2,7 +2,9 @@
 ghost use Rattle.std.specs.Prelude.{◌≡◌, ◌<◌, ◌^◌};
 ghost use Rattle.gate_set.specs.Matrix.{arity_of, half_power_of, entry_of, IsReduced};
 ghost use Rattle.gate_set.specs.Shape.{IsPlaced};
+ghost use Rattle.gate_set.specs.Circuits.{inverse_gate};
 
+use crate::entry::Entry;
 use crate::kind::Kind;
 use crate::qubits::Qubits;
 use std::alloc::Global;
@@ -53,5 +55,39 @@ impl Gate {
         ensures sound { IsPlaced self.now.kind self.now.on }
     {
         self.on.as_slice()
+    }
+
+    /// How many factors 1/√2 its matrix has beside the entries.
+    pub fn half_power(&self) -> u8
+        ensures value { result ≡ half_power_of self.now.kind }
+        ensures sound { IsPlaced self.now.kind self.now.on }
+    {
+        self.kind.row().half_power
+    }
+
+    /// The entry of its matrix, without the factors 1/√2.
+    pub fn entry(&self, row: u8, col: u8) -> Entry
+        requires row { row < 2 ^ arity_of self.now.kind }
+        requires col { col < 2 ^ arity_of self.now.kind }
+        ensures value { result ≡ entry_of self.now.kind row col }
+        ensures reduced { IsReduced result }
+        ensures sound { IsPlaced self.now.kind self.now.on }
+    {
+        self.kind.row().entry(row, col)
+    }
+
+    /// The gate with the inverse matrix, on the same qubits. It takes no memory.
+    pub fn inverse(mut self) -> Gate
+        ensures { result ≡ inverse_gate self }
+    {
+        self.invert();
+        self
+    }
+
+    /// It becomes its inverse.
+    pub fn invert(&mut self)
+        ensures { self.new ≡ inverse_gate self.old }
+    {
+        self.kind = self.kind.row().inverse;
     }
 }

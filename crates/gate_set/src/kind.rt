@@ -1,6 +1,6 @@
 //! Kinds of gates.
 ghost use Rattle.std.specs.Prelude.{◌≡◌};
-ghost use Rattle.gate_set.specs.Matrix.{arity_of, half_power_of, inverse_of};
+ghost use Rattle.gate_set.specs.Matrix.{arity_of};
 
 /// What a gate does. `RxP` and `RxM` are the quarter turns about the x axis, `RyP` and `RyM` those about the y axis.
 #[derive(Clone, Copy, PartialEq, Eq, Debug)]
@@ -30,10 +30,6 @@ impl Kind {
     pub fn arity(self) -> u8
         ensures { result ≡ arity_of self }
     {
-        match self {
-            Kind::Cx | Kind::Cz | Kind::Swap => 2,
-            Kind::Ccx | Kind::Cswap => 3,
-            _ => 1,
-        }
+        self.row().arity()
     }
 }

@@ -7,6 +7,7 @@ mod gate;
 mod kind;
 mod laws;
 mod qubits;
+mod table;
 
 pub use circuit::Circuit;
 pub use entry::Entry;
