@@ -56,9 +56,34 @@ long k h e = below 0 (length (name_of k)) h (sym (ap length e))
 all_named : All IsNamed named_kinds
 unfolding name_of
 all_named =
-    All-from_recursion IsNamed named_kinds
-    (long Id (lit< tt), (long X (lit< tt), (long Y (lit< tt), (long Z (lit< tt), (long H (lit< tt), (long S (lit< tt), (long Sdg (lit< tt), (long T (lit< tt), (long Tdg (lit< tt),
-        (long Cx (lit< tt), (long Cz (lit< tt), (long Swap (lit< tt), (long Ccx (lit< tt), (long Cswap (lit< tt), tt))))))))))))))
+    All-from_recursion IsNamed named_kinds (
+      long Id (lit< tt),
+      (
+        long X (lit< tt),
+        (
+          long Y (lit< tt),
+          (
+            long Z (lit< tt),
+            (
+              long H (lit< tt),
+              (
+                long S (lit< tt),
+                (
+                  long Sdg (lit< tt),
+                  (
+                    long T (lit< tt),
+                    (
+                      long Tdg (lit< tt),
+                      (long Cx (lit< tt), (long Cz (lit< tt), (long Swap (lit< tt), (long Ccx (lit< tt), (long Cswap (lit< tt), tt))))),
+                    ),
+                  ),
+                ),
+              ),
+            ),
+          ),
+        ),
+      ),
+    )
 
 -- a name of one of these kinds, or no name
 pub named_front : (text : List ℕ) (o : Option (Kind × Bor (List ℕ))) → IsFront (λ k. name_of k ++ codes " ") (Contains named_kinds) text o
@@ -168,7 +193,7 @@ no_two n kind text o e arity none =
 -- three different places
 three_of : (n : ℕ) (text on rest : List ℕ) → length on ≡ 3 → All (λ q. q < n) on → AllPairs (λ p q. p ≢ q) on
     → ((x : ℕ × ℕ × ℕ) (r : List ℕ) → (x.0 < n) × (x.1 < n) × (x.2 < n) × (x.0 ≢ x.1) × (x.0 ≢ x.2) × (x.1 ≢ x.2)
-        → text ≡ (place x.0 ++ codes "," ++ place x.1 ++ codes "," ++ place x.2 ++ codes ";\n") ++ r → ⊥)
+    → text ≡ (place x.0 ++ codes "," ++ place x.1 ++ codes "," ++ place x.2 ++ codes ";\n") ++ r → ⊥)
     → text ≡ (places on ++ codes ";\n") ++ rest → ⊥
 three_of n text [] rest size lower apart none e = below 0 3 (lit< tt) size
 three_of n text (p ∷ []) rest size lower apart none e = below 1 3 (lit< tt) size
@@ -180,7 +205,7 @@ three_of n text (p ∷ q ∷ r ∷ s ∷ qs) rest size lower apart none e = absu
 
 pub no_three : (n : ℕ) (kind : Kind) (text : List ℕ) (o : Option (Placement × Bor (List ℕ))) → o ≡ None → arity_of kind ≡ 3
     → ((x : ℕ × ℕ × ℕ) (r : List ℕ) → (x.0 < n) × (x.1 < n) × (x.2 < n) × (x.0 ≢ x.1) × (x.0 ≢ x.2) × (x.1 ≢ x.2)
-        → text ≡ (place x.0 ++ codes "," ++ place x.1 ++ codes "," ++ place x.2 ++ codes ";\n") ++ r → ⊥)
+    → text ≡ (place x.0 ++ codes "," ++ place x.1 ++ codes "," ++ place x.2 ++ codes ";\n") ++ r → ⊥)
     → IsFront (λ g. places g.on ++ codes ";\n") (λ g. (g.kind ≡ kind) × IsOn n g) text o
 no_three n kind text o e arity none =
     no_front _ _ text o e
@@ -212,10 +237,11 @@ pub line_front : (n : ℕ) (kind : Kind) (text more : List ℕ) (o : Option (Pla
     → IsFront (λ g. places g.on ++ codes ";\n") (λ g. (g.kind ≡ kind) × IsOn n g) more o → IsFront gate_line (λ g. IsNamed g.kind × IsOn n g) text o
 line_front n kind text more None named e h = λ g rest good f.
     let whole : name_of g.kind ++ 32 ∷ (places g.on ++ (codes ";\n" ++ rest)) ≡ name_of kind ++ 32 ∷ more =
-        sym (line_parts g rest) ∙ sym f ∙ e ∙ append_assoc (name_of kind) (codes " ") more in
+    sym (line_parts g rest) ∙ sym f ∙ e ∙ append_assoc (name_of kind) (codes " ") more in
     let one = one_name g.kind kind (places g.on ++ (codes ";\n" ++ rest)) more good.0 named whole in
     h g rest (one.0, good.1) (sym one.1 ∙ sym (append_assoc (places g.on) (codes ";\n") rest))
-line_front n kind text more (Some x) named e h =
-    ((subst IsNamed (sym h.0.0) named, h.0.1),
-        e ∙ append_assoc (name_of kind) (codes " ") more ∙ ap (λ (k : Kind). name_of k ++ 32 ∷ more) (sym h.0.0)
-        ∙ ap (λ (t : List ℕ). name_of x.0.kind ++ 32 ∷ t) (h.1 ∙ append_assoc (places x.0.on) (codes ";\n") x.1.now) ∙ sym (line_parts x.0 x.1.now))
+line_front n kind text more (Some x) named e h = (
+  (subst IsNamed (sym h.0.0) named, h.0.1),
+  e ∙ append_assoc (name_of kind) (codes " ") more ∙ ap (λ (k : Kind). name_of k ++ 32 ∷ more) (sym h.0.0)
+      ∙ ap (λ (t : List ℕ). name_of x.0.kind ++ 32 ∷ t) (h.1 ∙ append_assoc (places x.0.on) (codes ";\n") x.1.now) ∙ sym (line_parts x.0 x.1.now),
+)

@@ -88,7 +88,11 @@ fn digit_at(text: &[u8], below: u8) -> Option<(u8, &[u8])>
 {
     let (first, rest) = text.split_first()?;
     let digit = first.checked_sub(b'0')?;
-    if digit < below { Some((digit, rest)) } else { None }
+    if digit < below {
+        Some((digit, rest))
+    } else {
+        None
+    }
 }
 
 // `q[`, a digit and `]`.
@@ -118,14 +122,16 @@ fn two_at(text: &[u8], below: u8) -> Option<((u8, u8), &[u8])>
 
 // Three different places and the end of the line.
 fn three_at(text: &[u8], below: u8) -> Option<((u8, u8, u8), &[u8])>
-    ensures {
-        IsFront (λ x. place x.0 ++ codes "," ++ place x.1 ++ codes "," ++ place x.2 ++ codes ";\n")
-            (λ x. (x.0 < below) × (x.1 < below) × (x.2 < below) × (x.0 ≢ x.1) × (x.0 ≢ x.2) × (x.1 ≢ x.2)) text.now result
-    }
+    ensures { IsFront (λ x. place x.0 ++ codes "," ++ place x.1 ++ codes "," ++ place x.2 ++ codes ";\n")
+        (λ x. (x.0 < below) × (x.1 < below) × (x.2 < below) × (x.0 ≢ x.1) × (x.0 ≢ x.2) × (x.1 ≢ x.2)) text.now result }
 {
     let (p, rest) = place_at(text, below)?;
     let ((q, r), rest) = two_at(after(rest, b",")?, below)?;
-    if p == q || p == r { None } else { Some(((p, q, r), rest)) }
+    if p == q || p == r {
+        None
+    } else {
+        Some(((p, q, r), rest))
+    }
 }
 
 // The places of a gate of this kind, and the end of the line.
