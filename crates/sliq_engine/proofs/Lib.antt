@@ -1,1 +1,3 @@
+pub mod Spellings
+pub mod Lines
 mod Partial
