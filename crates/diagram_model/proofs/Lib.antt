@@ -1,6 +1,9 @@
 pub mod Canonical
 pub mod Extend
+pub mod Fixing
+pub mod Growing
 pub mod Heights
+pub mod Prefixes
 pub mod Reached
 pub mod Sizes
 pub mod Values

@@ -1,5 +1,5 @@
 -- A store of nodes as contracts see it, and what may change in it.
-use Rattle.std.specs.Prelude.{◌≡◌, ◌≢◌, ◌⊎◌, ℕ, ◌+◌, ◌<◌, ◌≤◌, Bool, true, cond, List, ◌∷◌, length, Option, Some, None, is_some, count_by}
+use Rattle.std.specs.Prelude.{◌≡◌, ◌≢◌, ◌⊎◌, ℕ, ◌+◌, ◌<◌, ◌≤◌, Bool, true, cond, List, ◌∷◌, length, Option, Some, None, is_some, IsSome, count_by}
 use Rattle.bit_lists.specs.Orders.{has, after}
 use Rattle.diagram_model.specs.declared.parts.Parts.{Parts}
 use Rattle.diagram_model.specs.Functions.{Assignment, Function}
@@ -18,6 +18,10 @@ held d = count_by is_some d.slots
 -- FALSE, TRUE or a held node
 abbrev pub IsLive : Diagram → ℕ → Type 0
 IsLive d n = IsLiveIn d.slots d.order n
+
+-- n is held
+abbrev pub IsHeld : Diagram → ℕ → Type 0
+IsHeld d n = IsSome (parts_of d.slots n)
 
 -- v stands above n: n is FALSE, TRUE, or held with a variable below v
 abbrev pub IsAbove : Diagram → ℕ → ℕ → Type 0
@@ -47,6 +51,11 @@ pub record Extends (old new : Diagram) : Type 0 where
   pub order : new.order ≡ old.order
   pub limit : new.limit ≡ old.limit
   pub kept : (n : ℕ) (p : Parts) → parts_of old.slots n ≡ Some p → parts_of new.slots n ≡ Some p
+
+-- each live node of old is live in new, and denotes the same function
+pub record KeepsFunctions (old new : Diagram) : Type 0 where
+  pub live : (n : ℕ) → IsLive old n → IsLive new n
+  pub same : (n : ℕ) → IsLive old n → (x : Assignment) → value new.slots new.order x n ≡ value old.slots old.order x n
 
 -- v and the variables below it
 abbrev pub from : List ℕ → ℕ → List ℕ

@@ -1,2 +1,3 @@
 pub mod Kept
+pub mod Makes
 pub mod Tables

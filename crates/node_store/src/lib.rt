@@ -3,5 +3,7 @@
 
 mod node;
 mod slots;
+mod store;
 
 pub use node::{FALSE, Node, StoreStop, TRUE};
+pub use store::Store;
