@@ -1,3 +1,5 @@
 pub mod Spellings
 pub mod Lines
 mod Partial
+mod ListingLemmas
+mod Phases

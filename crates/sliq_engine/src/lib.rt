@@ -1,6 +1,15 @@
 //! The top call: one command on the texts of a shelf, its output on a sink.
 #![tactic(auto)]
 
+mod cause;
 mod fronts;
+mod message;
+mod output;
 mod plain_text;
 mod simulation;
+mod top;
+mod words;
+
+pub use cause::{Cause, Ended};
+pub use plain_text::one_plain_reading;
+pub use top::run;

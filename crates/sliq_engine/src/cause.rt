@@ -1,0 +1,44 @@
+//! How a run ends.
+ghost use Rattle.std.specs.Prelude.{◌≡◌};
+ghost use Rattle.sliq_engine.specs.Ends.{status_of};
+
+/// Why a run ended. Files are counted from 1.
+#[derive(Clone, Copy, Debug, PartialEq, Eq)]
+pub enum Cause {
+    /// The whole output was written.
+    Done,
+    /// The words ask for no command.
+    BadWords,
+    /// A file could not be opened or read.
+    ReadFault,
+    /// This file has more than 16,777,216 bytes.
+    TooLong { file: u8 },
+    /// This file's text is not of a kind that is read yet.
+    Unbuilt { file: u8 },
+    /// The output could not be written whole.
+    WriteFault,
+    /// Memory was wanted and refused.
+    OutOfMemory,
+}
+
+/// The end of a run: the exit status and its cause.
+#[derive(Clone, Copy, Debug, PartialEq, Eq)]
+pub struct Ended {
+    pub status: u8,
+    pub cause: Cause,
+}
+
+impl Cause {
+    pub fn status(self) -> u8
+        ensures { result ≡ status_of self }
+    {
+        match self {
+            Cause::Done => 0,
+            Cause::BadWords => 2,
+            Cause::ReadFault => 3,
+            Cause::TooLong { .. } | Cause::Unbuilt { .. } => 4,
+            Cause::WriteFault => 6,
+            Cause::OutOfMemory => 7,
+        }
+    }
+}

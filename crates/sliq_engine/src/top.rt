@@ -1,0 +1,88 @@
+//! The top call.
+ghost use Rattle.std.specs.Prelude.{◌≡◌, ◌≤◌, ℕ, IsTrue, map, string_bytes, None};
+ghost use Rattle.outside.specs.Outside.{Rose, SameTexts, NoneFalls};
+ghost use Rattle.sliq_engine.specs.Words.{command_of};
+ghost use Rattle.sliq_engine.specs.Ends.{RunsTo, FileRose, Tells, status_of, lines_of};
+
+use crate::cause::{Cause, Ended};
+use crate::message::lines_of;
+use crate::output::{SendStop, send_sim};
+use crate::plain_text::{PlainStop, read_plain};
+use crate::words::file_of;
+use outside::{Shelf, Sink, TakeStop, read_all, write_all};
+use std::alloc::Global;
+
+/// Carries out the command of the words: reads its files from the shelf, writes its output on `out`, and says on `err` why it
+/// stopped.
+///
+/// Where the words ask for no command it takes no memory. Nothing is written on `out` before all files were read to their end.
+pub fn run<S: Shelf, K: Sink, E: Sink>(
+    alloc: Global,
+    words: &[String],
+    shelf: &mut S,
+    out: &mut K,
+    err: &mut E,
+) -> Ended
+    ensures runs { RunsTo (S.text shelf.old) (map string_bytes words.now) result.cause (K.written out.old) (K.written out.new) }
+    ensures status { result.status ≡ status_of result.cause }
+    ensures err { Tells (lines_of result.cause) (E.written err.old) (E.written err.new) (E.faults err.old) (E.faults err.new) }
+
+    // What each device shows.
+    ensures no_words { command_of (map string_bytes words.now) ≡ None → result.cause ≡ Cause.BadWords }
+    ensures too_long { (file : ℕ) → result.cause ≡ Cause.TooLong file → IsTrue (S.ready shelf.new) × (S.taken shelf.new ≡ 16777217) }
+    ensures read_fault { result.cause ≡ Cause.ReadFault → FileRose (S.text shelf.old) (map string_bytes words.now) (S.faults shelf.old) (S.faults shelf.new) }
+    ensures write_fault { result.cause ≡ Cause.WriteFault → Rose (K.faults out.old) (K.faults out.new) }
+    ensures to_the_end { result.cause ≡ Cause.Done → IsTrue (S.ended shelf.new) }
+
+    // What stays.
+    ensures texts { SameTexts (S.text shelf.old) (S.text shelf.new) }
+    ensures counts { NoneFalls (S.faults shelf.old) (S.faults shelf.new) }
+    ensures out_counts { K.faults out.old ≤ K.faults out.new }
+    ensures err_counts { E.faults err.old ≤ E.faults err.new }
+{
+    let cause = carry_out(alloc, words, shelf, out);
+    let lines = lines_of(cause);
+    let _ = write_all(err, lines.as_bytes());
+    Ended {
+        status: cause.status(),
+        cause,
+    }
+}
+
+// The same but for err.
+fn carry_out<S: Shelf, K: Sink>(
+    alloc: Global,
+    words: &[String],
+    shelf: &mut S,
+    out: &mut K,
+) -> Cause
+    ensures runs { RunsTo (S.text shelf.old) (map string_bytes words.now) result (K.written out.old) (K.written out.new) }
+    ensures no_words { command_of (map string_bytes words.now) ≡ None → result ≡ Cause.BadWords }
+    ensures too_long { (file : ℕ) → result ≡ Cause.TooLong file → IsTrue (S.ready shelf.new) × (S.taken shelf.new ≡ 16777217) }
+    ensures read_fault { result ≡ Cause.ReadFault → FileRose (S.text shelf.old) (map string_bytes words.now) (S.faults shelf.old) (S.faults shelf.new) }
+    ensures write_fault { result ≡ Cause.WriteFault → Rose (K.faults out.old) (K.faults out.new) }
+    ensures to_the_end { result ≡ Cause.Done → IsTrue (S.ended shelf.new) }
+    ensures texts { SameTexts (S.text shelf.old) (S.text shelf.new) }
+    ensures counts { NoneFalls (S.faults shelf.old) (S.faults shelf.new) }
+    ensures out_counts { K.faults out.old ≤ K.faults out.new }
+{
+    let Some(name) = file_of(words) else {
+        return Cause::BadWords;
+    };
+    let text = match read_all(alloc, shelf, name) {
+        Ok(text) => text,
+        Err(TakeStop::Fault) => return Cause::ReadFault,
+        Err(TakeStop::TooLong) => return Cause::TooLong { file: 1 },
+        Err(TakeStop::OutOfMemory) => return Cause::OutOfMemory,
+    };
+    let plain = match read_plain(alloc, &text) {
+        Ok(plain) => plain,
+        Err(PlainStop::NotPlain) => return Cause::Unbuilt { file: 1 },
+        Err(PlainStop::OutOfMemory) => return Cause::OutOfMemory,
+    };
+    match send_sim(alloc, out, plain.qubits, &plain.gates) {
+        Ok(()) => Cause::Done,
+        Err(SendStop::Fault) => Cause::WriteFault,
+        Err(SendStop::OutOfMemory) => Cause::OutOfMemory,
+    }
+}
