@@ -1,5 +1,5 @@
 -- A circuit with one gate more, and its inverse, are circuits.
-use Rattle.std.proofs.Common.{◌≡◌, ℕ, zero, suc, ◌+◌, ◌-◌, ◌<◌, ◌≤◌, set, take, drop, Bool, true, false, cond, List, [], ◌∷◌, ◌++◌, length, map, get_or, All, refl, sym, ◌∙◌, ap, subst, arith, length-append, reverse}
+use Rattle.std.proofs.Common.{◌≡◌, ℕ, zero, suc, ◌+◌, ◌-◌, ◌<◌, set, take, drop, List, [], ◌∷◌, ◌++◌, length, map, get_or, All, sym, ◌∙◌, ap, subst, arith, length-append, reverse}
 use Rattle.std.proofs.lemmas.List.{length-map, length-reverse, get_or-reverse}
 use Rattle.std.proofs.lemmas.List.Elements.{All-append, All-cons, All-nil, All-map}
 use Rattle.gate_set.specs.declared.gate.Gate.{Gate}

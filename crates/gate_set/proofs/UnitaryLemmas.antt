@@ -1,9 +1,9 @@
 -- Each matrix is unitary, by a test over its table.
-use Rattle.std.proofs.Common.{◌≡◌, ℕ, zero, suc, ◌+◌, ◌-◌, ◌*◌, ◌^◌, ◌<◌, ◌≤◌, refl, sym, ◌∙◌, ap, Bool, true, false, ◌&&◌, cond, arith, ℤ, pos, ◌-ℤ◌, ◌⊎◌, inl, inr}
+use Rattle.std.proofs.Common.{◌≡◌, ℕ, zero, suc, ◌^◌, ◌<◌, refl, ◌∙◌, ap, Bool, true, ◌&&◌, arith, pos, ◌-ℤ◌, ◌⊎◌, inl, inr}
 use Rattle.std.proofs.lemmas.Int.{ints}
 use Rattle.std.proofs.lemmas.Bool.{and_parts}
 use Rattle.ring_omega.specs.declared.quad.Quad.{Quad}
-use Rattle.ring_omega.specs.Ring.{quad, zero_quad, sum_of, difference_of, product_of, conjugate_of, is_zero}
+use Rattle.ring_omega.specs.Ring.{sum_of, difference_of, product_of, conjugate_of, is_zero}
 use Rattle.ring_omega.proofs.RingLemmas.{quad_eq, Decides-is_zero}
 use Rattle.gate_set.specs.declared.kind.Kind.{Kind}
 use Rattle.gate_set.specs.declared.kind.Kind.TheVariants.{Id, X, Y, Z, H, S, Sdg, T, Tdg, RxP, RxM, RyP, RyM, Cx, Cz, Swap, Ccx, Cswap}

@@ -34,7 +34,8 @@ impl Gate {
     /// It takes no memory.
     pub fn new(alloc: Global, kind: Kind, on: &[u8]) -> Gate
         requires { IsPlaced kind on.now }
-        ensures { result ≡ record { kind = kind; on = on.now } }
+        ensures value { result ≡ record { kind = kind; on = on.now } }
+        ensures sound { IsPlaced result.kind result.on }
     {
         Gate {
             kind,
@@ -78,7 +79,8 @@ impl Gate {
 
     /// The gate with the inverse matrix, on the same qubits. It takes no memory.
     pub fn inverse(mut self) -> Gate
-        ensures { result ≡ inverse_gate self }
+        ensures value { result ≡ inverse_gate self }
+        ensures sound { IsPlaced result.kind result.on }
     {
         self.invert();
         self
@@ -86,7 +88,8 @@ impl Gate {
 
     /// It becomes its inverse.
     pub fn invert(&mut self)
-        ensures { self.new ≡ inverse_gate self.old }
+        ensures value { self.new ≡ inverse_gate self.old }
+        ensures sound { IsPlaced self.new.kind self.new.on }
     {
         self.kind = self.kind.row().inverse;
     }

@@ -1,5 +1,5 @@
 //! Kinds of gates.
-ghost use Rattle.std.specs.Prelude.{◌≡◌};
+ghost use Rattle.std.specs.Prelude.{◌≡◌, ◌≤◌};
 ghost use Rattle.gate_set.specs.Matrix.{arity_of};
 
 /// What a gate does. `RxP` and `RxM` are the quarter turns about the x axis, `RyP` and `RyM` those about the y axis.
@@ -28,7 +28,9 @@ pub enum Kind {
 impl Kind {
     /// How many qubits a gate of this kind is on.
     pub fn arity(self) -> u8
-        ensures { result ≡ arity_of self }
+        ensures value { result ≡ arity_of self }
+        ensures some { 1 ≤ result }
+        ensures few { result ≤ 3 }
     {
         self.row().arity()
     }

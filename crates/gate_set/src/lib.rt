@@ -8,6 +8,8 @@ mod kind;
 mod laws;
 mod qubits;
 mod table;
+#[cfg(test)]
+mod tests;
 
 pub use circuit::Circuit;
 pub use entry::Entry;

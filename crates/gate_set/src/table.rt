@@ -1,6 +1,6 @@
 //! The table of the gates.
 ghost use Rattle.std.specs.Prelude.{◌≡◌, ◌+◌, ◌<◌, ◌≤◌, ◌^◌};
-ghost use Rattle.gate_set.specs.Matrix.{arity_of, half_power_of, inverse_of, matrix_of, IsReduced};
+ghost use Rattle.gate_set.specs.Matrix.{arity_of, half_power_of, inverse_of, matrix_of};
 ghost use Rattle.gate_set.specs.Private.{block_arity, block_matrix, controlled_by, entry_at};
 
 use crate::entry::Entry;
@@ -47,12 +47,13 @@ macro_rules! rows {
 }
 
 impl Kind {
-    // A row: the kind's inverse, its half power, its number of controls, and its block by rows.
+    // A line of the table: the kind, then its inverse, its half power, its number of controls, and its block by rows.
     #[tactic(auto, unfolding(crate::specs::Matrix::matrix_of))]
-    pub fn row(self) -> Row
+    pub(crate) fn row(self) -> Row
         ensures inverse { result.inverse ≡ inverse_of self }
         ensures half_power { result.half_power ≡ half_power_of self }
         ensures controls { result.controls ≤ 2 }
+        ensures few { result.controls + block_arity result.block ≤ 3 }
         ensures arity { result.controls + block_arity result.block ≡ arity_of self }
         ensures matrix { controlled_by result.controls (block_matrix result.block) ≡ matrix_of self }
     {
@@ -83,7 +84,8 @@ impl Row {
     // The number of qubits.
     pub fn arity(&self) -> u8
         requires { self.now.controls ≤ 2 }
-        ensures { result ≡ self.now.controls + block_arity self.now.block }
+        ensures value { result ≡ self.now.controls + block_arity self.now.block }
+        ensures some { 1 ≤ result }
     {
         self.controls + self.block.arity()
     }
@@ -107,6 +109,7 @@ impl Row {
 impl Block {
     fn arity(self) -> u8
         ensures value { result ≡ block_arity self }
+        ensures some { 1 ≤ result }
         ensures few { result ≤ 2 }
     {
         match self {

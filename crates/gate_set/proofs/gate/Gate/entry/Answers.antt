@@ -1,4 +1,4 @@
-use Rattle.std.proofs.Common.{◌≡◌, ◌∙◌, ap, sym, subst}
+use Rattle.std.proofs.Common.{◌∙◌, ap, sym, subst}
 use Rattle.gate_set.specs.Matrix.{entry_of, IsReduced}
 use Rattle.gate_set.specs.Private.{entry_at}
 use Rattle.gate_set.proofs.gate.Gate.entry.Goals as goal
