@@ -1,0 +1,2 @@
+pub mod Texts
+pub use Rattle.bit_lists.specs.Lists.{bits_text}

@@ -1,0 +1,29 @@
+-- The texts that a run writes, as bytes.
+use Rattle.std.specs.Prelude.{ℕ, Bool, List, ◌++◌, codes, decimal}
+use Rattle.std.specs.Fmt.{signed_decimal}
+use Rattle.ring_omega.specs.declared.quad.Quad.{Quad}
+use Rattle.bit_lists.specs.Lists.{bits_text}
+use Rattle.amp_printer.specs.declared.counted.Counted.{Counted}
+use Rattle.amp_printer.specs.declared.counted.Counted.TheVariants.{Qubits, States, Measured, Outcomes, Gates, Exponent}
+
+-- the number q/√2^k: `(a,b,c,d)/sqrt2^k`
+unfoldable pub entry_text : Quad → ℕ → List ℕ
+entry_text q k =
+    codes "(" ++ signed_decimal q.a ++ codes "," ++ signed_decimal q.b ++ codes "," ++ signed_decimal q.c ++ codes "," ++ signed_decimal q.d
+    ++ codes ")/sqrt2^" ++ decimal k
+
+-- the basis state x with the amplitude q/√2^k: `|BITS> ENTRY` and a line feed
+unfoldable pub state_line : List Bool → Quad → ℕ → List ℕ
+state_line x q k = codes "|" ++ bits_text x ++ codes "> " ++ entry_text q k ++ codes "\n"
+
+abbrev pub word_of : Counted → List ℕ
+word_of Qubits = codes "qubits"
+word_of States = codes "states"
+word_of Measured = codes "measured"
+word_of Outcomes = codes "outcomes"
+word_of Gates = codes "gates"
+word_of Exponent = codes "exponent"
+
+-- the count n: its word, the number and a line feed
+unfoldable pub count_line : Counted → ℕ → List ℕ
+count_line word n = word_of word ++ codes " " ++ decimal n ++ codes "\n"

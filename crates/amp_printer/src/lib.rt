@@ -1,0 +1,12 @@
+//! The texts that a run writes, each as a line of fixed room. No call takes memory.
+#![tactic(auto)]
+
+mod counted;
+mod entry;
+mod line;
+#[cfg(test)]
+mod tests;
+
+pub use counted::{Counted, count_line};
+pub use entry::{entry_text, state_line};
+pub use line::Line;
