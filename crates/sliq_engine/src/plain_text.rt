@@ -71,3 +71,6 @@ fn gates_of(alloc: Global, text: &[u8], below: u8) -> Result<Vec<Gate>, PlainSto
     }
     Ok(gates)
 }
+
+#[cfg(test)]
+mod tests;
