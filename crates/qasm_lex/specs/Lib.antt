@@ -5,3 +5,4 @@ pub mod Fractions
 pub mod Expressions
 pub mod Values
 pub mod Descent
+pub mod Symbols

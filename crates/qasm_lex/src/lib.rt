@@ -8,6 +8,7 @@ mod descent;
 mod divisor;
 mod fraction;
 mod laws;
+mod number;
 mod pieces;
 mod refusal;
 mod scanning;
