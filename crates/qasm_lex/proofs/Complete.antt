@@ -1,0 +1,262 @@
+-- What a tree spells is read as its value, whatever may follow.
+use Rattle.std.proofs.Common.{◌≡◌, ◌∙◌, sym, ap, refl, ◌≤◌, ◌<◌, ℕ, zero, suc, ◌+◌, ◌*◌, List, [], ◌∷◌, ◌++◌, length, Option, Some, None, rules, arith, append_assoc, length-append, subst}
+use Rattle.qasm_lex.specs.declared.symbol.Symbol.{Symbol}
+use Rattle.qasm_lex.specs.declared.symbol.Symbol.TheVariants.{Whole, Real, Pi, Function, Plus, Minus, Times, Over, Caret, Open, Close, Other}
+use Rattle.qasm_lex.specs.Expressions.{Tree, whole, real, pi, plus, minus, times, over, opposite, raised, called, group, spelling, rank, Formed, Algebra, eval}
+use Rattle.qasm_lex.specs.Descent.{Goal, expr, terms, term, factors, factor, power, raise, atom, Found, next, close, parse}
+
+-- what may follow: nothing that would go on
+abbrev pub NoSum : List Symbol → Type 0
+NoSum (Plus ∷ s) = ⊥
+NoSum (Minus ∷ s) = ⊥
+NoSum _ = Unit {0}
+
+abbrev pub NoProduct : List Symbol → Type 0
+NoProduct (Times ∷ s) = ⊥
+NoProduct (Over ∷ s) = ⊥
+NoProduct _ = Unit {0}
+
+abbrev pub NoPower : List Symbol → Type 0
+NoPower (Caret ∷ s) = ⊥
+NoPower _ = Unit {0}
+
+abbrev pub NoMinus : List Symbol → Type 0
+NoMinus (Minus ∷ s) = ⊥
+NoMinus _ = Unit {0}
+
+-- at the end of a part
+terms_end : {X : Type 0} (o : Algebra X) (m : ℕ) (v : X) (r : List Symbol) → NoSum r → 0 < m → parse o m (terms v) r ≡ Some (v, r)
+unfolding parse
+terms_end o zero v r h p = absurd (omega arith)
+terms_end o (suc m) v [] h p = refl
+terms_end o (suc m) v (Plus ∷ r) h p = absurd h
+terms_end o (suc m) v (Minus ∷ r) h p = absurd h
+terms_end o (suc m) v (_ ∷ r) h p = refl
+
+factors_end : {X : Type 0} (o : Algebra X) (m : ℕ) (v : X) (r : List Symbol) → NoProduct r → 0 < m → parse o m (factors v) r ≡ Some (v, r)
+unfolding parse
+factors_end o zero v r h p = absurd (omega arith)
+factors_end o (suc m) v [] h p = refl
+factors_end o (suc m) v (Times ∷ r) h p = absurd h
+factors_end o (suc m) v (Over ∷ r) h p = absurd h
+factors_end o (suc m) v (_ ∷ r) h p = refl
+
+raise_end : {X : Type 0} (o : Algebra X) (m : ℕ) (v : X) (r : List Symbol) → NoPower r → 0 < m → parse o m (raise v) r ≡ Some (v, r)
+unfolding parse
+raise_end o zero v r h p = absurd (omega arith)
+raise_end o (suc m) v [] h p = refl
+raise_end o (suc m) v (Caret ∷ r) h p = absurd h
+raise_end o (suc m) v (_ ∷ r) h p = refl
+
+factor_is : {X : Type 0} (o : Algebra X) (m : ℕ) (s : List Symbol) → NoMinus s → parse o (suc m) factor s ≡ parse o m power s
+unfolding parse
+factor_is o m [] h = refl
+factor_is o m (Minus ∷ r) h = absurd h
+factor_is o m (_ ∷ r) h = refl
+
+-- the spelling s of something of value v, at each of the ranks
+abbrev pub AtAtom : {X : Type 0} → Algebra X → List Symbol → X → Type 0
+AtAtom o s v = (r : List Symbol) (n : ℕ) → 8 * length (s ++ r) + 1 ≤ n → parse o n atom (s ++ r) ≡ Some (v, r)
+
+abbrev pub AtPower : {X : Type 0} → Algebra X → List Symbol → X → Type 0
+AtPower o s v = (r : List Symbol) (n : ℕ) → NoPower r → 8 * length (s ++ r) + 2 ≤ n → parse o n power (s ++ r) ≡ Some (v, r)
+
+abbrev pub AtFactor : {X : Type 0} → Algebra X → List Symbol → X → Type 0
+AtFactor o s v = (r : List Symbol) (n : ℕ) → NoPower r → 8 * length (s ++ r) + 3 ≤ n → parse o n factor (s ++ r) ≡ Some (v, r)
+
+-- after it the factors, or the terms, go on
+pub record Onward {X : Type 0} (o : Algebra X) (n : ℕ) (g : Goal X) (s : List Symbol) (on : Goal X) (r : List Symbol) : Type 0 where
+  pub left : ℕ
+  pub enough : 8 * length r + 1 ≤ left
+  pub goes : parse o n g (s ++ r) ≡ parse o left on r
+
+abbrev pub AtTerm : {X : Type 0} → Algebra X → List Symbol → X → Type 0
+AtTerm o s v = (r : List Symbol) (n : ℕ) → NoPower r → 8 * length (s ++ r) + 5 ≤ n → Onward o n term s (factors v) r
+
+abbrev pub AtExpr : {X : Type 0} → Algebra X → List Symbol → X → Type 0
+AtExpr o s v = (r : List Symbol) (n : ℕ) → NoPower r → NoProduct r → 8 * length (s ++ r) + 7 ≤ n → Onward o n expr s (terms v) r
+
+power_from : {X : Type 0} (o : Algebra X) (s : List Symbol) (v : X) → AtAtom o s v → AtPower o s v
+unfolding parse
+power_from o s v h r zero f p = absurd (omega arith)
+power_from o s v h r (suc n) f p =
+    ap (λ x. next x (λ v r. parse o n (raise v) r)) (h r n (omega arith)) ∙ raise_end o n v r f (omega arith)
+
+factor_from : {X : Type 0} (o : Algebra X) (s : List Symbol) (v : X) → ((r : List Symbol) → NoMinus (s ++ r)) → AtPower o s v → AtFactor o s v
+factor_from o s v m h r zero f p = absurd (omega arith)
+factor_from o s v m h r (suc n) f p = factor_is o n (s ++ r) (m r) ∙ h r n f (omega arith)
+
+term_from : {X : Type 0} (o : Algebra X) (s : List Symbol) (v : X) → AtFactor o s v → AtTerm o s v
+unfolding parse
+term_from o s v h r zero f p = absurd (omega arith)
+term_from o s v h r (suc n) f p =
+    let size = length-append s r in
+    record { left = n; enough = omega arith; goes = ap (λ x. next x (λ v r. parse o n (factors v) r)) (h r n f (omega arith)) }
+
+term_ends : {X : Type 0} (o : Algebra X) (s : List Symbol) (v : X) → AtTerm o s v → (r : List Symbol) (n : ℕ) → NoPower r → NoProduct r → 8 * length (s ++ r) + 5 ≤ n → parse o n term (s ++ r) ≡ Some (v, r)
+term_ends o s v h r n f g p =
+    let on = h r n f p in
+    let e = on.enough in
+    on.goes ∙ factors_end o (on.left) v r g (omega arith)
+
+expr_from : {X : Type 0} (o : Algebra X) (s : List Symbol) (v : X) → AtTerm o s v → AtExpr o s v
+unfolding parse
+expr_from o s v h r zero f g p = absurd (omega arith)
+expr_from o s v h r (suc n) f g p =
+    let size = length-append s r in
+    record { left = n; enough = omega arith; goes = ap (λ x. next x (λ v r. parse o n (terms v) r)) (term_ends o s v h r n f g (omega arith)) }
+
+pub expr_ends : {X : Type 0} (o : Algebra X) (s : List Symbol) (v : X) → AtExpr o s v → (r : List Symbol) (n : ℕ) → NoPower r → NoProduct r → NoSum r → 8 * length (s ++ r) + 7 ≤ n → parse o n expr (s ++ r) ≡ Some (v, r)
+expr_ends o s v h r n f g k p =
+    let on = h r n f g p in
+    let e = on.enough in
+    on.goes ∙ terms_end o (on.left) v r k (omega arith)
+
+-- what holds of a spelling of this rank
+pub record Ladder {X : Type 0} (o : Algebra X) (k : ℕ) (s : List Symbol) (v : X) : Type 0 where
+  pub as_expr : AtExpr o s v
+  pub as_term : 1 ≤ k → AtTerm o s v
+  pub as_factor : 2 ≤ k → AtFactor o s v
+  pub as_atom : 4 ≤ k → AtAtom o s v
+  pub front : 3 ≤ k → (r : List Symbol) → NoMinus (s ++ r)
+
+atom_ladder : {X : Type 0} (o : Algebra X) (s : List Symbol) (v : X) → ((r : List Symbol) → NoMinus (s ++ r)) → AtAtom o s v → Ladder o 4 s v
+atom_ladder o s v m h =
+    let f = factor_from o s v m (power_from o s v h) in
+    record { as_expr = expr_from o s v (term_from o s v f); as_term = λ _. term_from o s v f; as_factor = λ _. f; as_atom = λ _. h; front = λ _. m }
+
+power_ladder : {X : Type 0} (o : Algebra X) (s : List Symbol) (v : X) → ((r : List Symbol) → NoMinus (s ++ r)) → AtPower o s v → Ladder o 3 s v
+power_ladder o s v m h =
+    let f = factor_from o s v m h in
+    record { as_expr = expr_from o s v (term_from o s v f); as_term = λ _. term_from o s v f; as_factor = λ _. f; as_atom = λ q. absurd (omega arith); front = λ _. m }
+
+factor_ladder : {X : Type 0} (o : Algebra X) (s : List Symbol) (v : X) → AtFactor o s v → Ladder o 2 s v
+factor_ladder o s v f =
+    record { as_expr = expr_from o s v (term_from o s v f); as_term = λ _. term_from o s v f; as_factor = λ _. f; as_atom = λ q. absurd (omega arith); front = λ q. absurd (omega arith) }
+
+term_ladder : {X : Type 0} (o : Algebra X) (s : List Symbol) (v : X) → AtTerm o s v → Ladder o 1 s v
+term_ladder o s v t =
+    record { as_expr = expr_from o s v t; as_term = λ _. t; as_factor = λ q. absurd (omega arith); as_atom = λ q. absurd (omega arith); front = λ q. absurd (omega arith) }
+
+expr_ladder : {X : Type 0} (o : Algebra X) (s : List Symbol) (v : X) → AtExpr o s v → Ladder o 0 s v
+expr_ladder o s v e =
+    record { as_expr = e; as_term = λ q. absurd (omega arith); as_factor = λ q. absurd (omega arith); as_atom = λ q. absurd (omega arith); front = λ q. absurd (omega arith) }
+
+-- the steps of the ladder
+raised_power : {X : Type 0} (o : Algebra X) (l r : List Symbol) (v w : X) → AtAtom o l v → AtFactor o r w → AtPower o (l ++ (Caret ∷ r)) (o.power v w)
+unfolding parse
+raised_power o l r v w a f u zero k p = absurd (omega arith)
+raised_power o l r v w a f u (suc zero) k p = absurd (omega arith)
+raised_power o l r v w a f u (suc (suc n)) k p =
+    let whole = length-append l (Caret ∷ (r ++ u)) in
+    let size : length (l ++ (Caret ∷ (r ++ u))) ≡ length ((l ++ (Caret ∷ r)) ++ u) = ap length (sym (append_assoc l (Caret ∷ r) u)) in
+    ap (λ x. parse o (suc (suc n)) power x) (append_assoc l (Caret ∷ r) u)
+    ∙ ap (λ x. next x (λ v r. parse o (suc n) (raise v) r)) (a (Caret ∷ (r ++ u)) (suc n) (omega arith))
+    ∙ ap (λ x. next x (λ w r. Some (o.power v w, r))) (f u n k (omega arith))
+
+opposite_factor : {X : Type 0} (o : Algebra X) (s : List Symbol) (v : X) → AtFactor o s v → AtFactor o (Minus ∷ s) (o.negative v)
+unfolding parse
+opposite_factor o s v f u zero k p = absurd (omega arith)
+opposite_factor o s v f u (suc n) k p = ap (λ x. next x (λ v r. Some (o.negative v, r))) (f u n k (omega arith))
+
+times_on : {X : Type 0} (o : Algebra X) (s r : List Symbol) (v w : X) (u : List Symbol) (n : ℕ) → AtFactor o r w → NoPower u → (left : ℕ) → 8 * length (Times ∷ (r ++ u)) + 1 ≤ left
+    → parse o n term (s ++ u) ≡ parse o left (factors v) (Times ∷ (r ++ u)) → Onward o n term s (factors (o.product v w)) u
+unfolding parse
+times_on o s r v w u n f k zero p e = absurd (omega arith)
+times_on o s r v w u n f k (suc left) p e =
+    let size = length-append r u in
+    record { left = left; enough = omega arith; goes = e ∙ ap (λ x. next x (λ w t. parse o left (factors (o.product v w)) t)) (f u left k (omega arith)) }
+
+times_term : {X : Type 0} (o : Algebra X) (l r : List Symbol) (v w : X) → AtTerm o l v → AtFactor o r w → AtTerm o (l ++ (Times ∷ r)) (o.product v w)
+times_term o l r v w a f u n k p =
+    let e = append_assoc l (Times ∷ r) u in
+    let size : length ((l ++ (Times ∷ r)) ++ u) ≡ length (l ++ (Times ∷ (r ++ u))) = ap length e in
+    let on = a (Times ∷ (r ++ u)) n tt (omega arith) in
+    times_on o (l ++ (Times ∷ r)) r v w u n f k (on.left) (on.enough) (ap (λ x. parse o n term x) e ∙ on.goes)
+
+over_on : {X : Type 0} (o : Algebra X) (s r : List Symbol) (v w : X) (u : List Symbol) (n : ℕ) → AtFactor o r w → NoPower u → (left : ℕ) → 8 * length (Over ∷ (r ++ u)) + 1 ≤ left
+    → parse o n term (s ++ u) ≡ parse o left (factors v) (Over ∷ (r ++ u)) → Onward o n term s (factors (o.quotient v w)) u
+unfolding parse
+over_on o s r v w u n f k zero p e = absurd (omega arith)
+over_on o s r v w u n f k (suc left) p e =
+    let size = length-append r u in
+    record { left = left; enough = omega arith; goes = e ∙ ap (λ x. next x (λ w t. parse o left (factors (o.quotient v w)) t)) (f u left k (omega arith)) }
+
+over_term : {X : Type 0} (o : Algebra X) (l r : List Symbol) (v w : X) → AtTerm o l v → AtFactor o r w → AtTerm o (l ++ (Over ∷ r)) (o.quotient v w)
+over_term o l r v w a f u n k p =
+    let e = append_assoc l (Over ∷ r) u in
+    let size : length ((l ++ (Over ∷ r)) ++ u) ≡ length (l ++ (Over ∷ (r ++ u))) = ap length e in
+    let on = a (Over ∷ (r ++ u)) n tt (omega arith) in
+    over_on o (l ++ (Over ∷ r)) r v w u n f k (on.left) (on.enough) (ap (λ x. parse o n term x) e ∙ on.goes)
+
+plus_on : {X : Type 0} (o : Algebra X) (s r : List Symbol) (v w : X) (u : List Symbol) (n : ℕ) → AtTerm o r w → NoPower u → NoProduct u → (left : ℕ) → 8 * length (Plus ∷ (r ++ u)) + 1 ≤ left
+    → parse o n expr (s ++ u) ≡ parse o left (terms v) (Plus ∷ (r ++ u)) → Onward o n expr s (terms (o.sum v w)) u
+unfolding parse
+plus_on o s r v w u n f k g zero p e = absurd (omega arith)
+plus_on o s r v w u n f k g (suc left) p e =
+    let size = length-append r u in
+    record { left = left; enough = omega arith; goes = e ∙ ap (λ x. next x (λ w t. parse o left (terms (o.sum v w)) t)) (term_ends o r w f u left k g (omega arith)) }
+
+plus_expr : {X : Type 0} (o : Algebra X) (l r : List Symbol) (v w : X) → AtExpr o l v → AtTerm o r w → AtExpr o (l ++ (Plus ∷ r)) (o.sum v w)
+plus_expr o l r v w a f u n k g p =
+    let e = append_assoc l (Plus ∷ r) u in
+    let size : length ((l ++ (Plus ∷ r)) ++ u) ≡ length (l ++ (Plus ∷ (r ++ u))) = ap length e in
+    let on = a (Plus ∷ (r ++ u)) n tt tt (omega arith) in
+    plus_on o (l ++ (Plus ∷ r)) r v w u n f k g (on.left) (on.enough) (ap (λ x. parse o n expr x) e ∙ on.goes)
+
+minus_on : {X : Type 0} (o : Algebra X) (s r : List Symbol) (v w : X) (u : List Symbol) (n : ℕ) → AtTerm o r w → NoPower u → NoProduct u → (left : ℕ) → 8 * length (Minus ∷ (r ++ u)) + 1 ≤ left
+    → parse o n expr (s ++ u) ≡ parse o left (terms v) (Minus ∷ (r ++ u)) → Onward o n expr s (terms (o.difference v w)) u
+unfolding parse
+minus_on o s r v w u n f k g zero p e = absurd (omega arith)
+minus_on o s r v w u n f k g (suc left) p e =
+    let size = length-append r u in
+    record { left = left; enough = omega arith; goes = e ∙ ap (λ x. next x (λ w t. parse o left (terms (o.difference v w)) t)) (term_ends o r w f u left k g (omega arith)) }
+
+minus_expr : {X : Type 0} (o : Algebra X) (l r : List Symbol) (v w : X) → AtExpr o l v → AtTerm o r w → AtExpr o (l ++ (Minus ∷ r)) (o.difference v w)
+minus_expr o l r v w a f u n k g p =
+    let e = append_assoc l (Minus ∷ r) u in
+    let size : length ((l ++ (Minus ∷ r)) ++ u) ≡ length (l ++ (Minus ∷ (r ++ u))) = ap length e in
+    let on = a (Minus ∷ (r ++ u)) n tt tt (omega arith) in
+    minus_on o (l ++ (Minus ∷ r)) r v w u n f k g (on.left) (on.enough) (ap (λ x. parse o n expr x) e ∙ on.goes)
+
+group_atom : {X : Type 0} (o : Algebra X) (s : List Symbol) (v : X) → AtExpr o s v → AtAtom o (Open ∷ (s ++ (Close ∷ []))) (o.grouped v)
+unfolding parse
+group_atom o s v h u zero p = absurd (omega arith)
+group_atom o s v h u (suc n) p =
+    let e = append_assoc s (Close ∷ []) u in
+    let size : length ((s ++ (Close ∷ [])) ++ u) ≡ length (s ++ (Close ∷ u)) = ap length e in
+    ap (λ x. next (parse o n expr x) (λ v r. close (o.grouped v) r)) e
+    ∙ ap (λ x. next x (λ v r. close (o.grouped v) r)) (expr_ends o s v h (Close ∷ u) n tt tt tt (omega arith))
+
+called_atom : {X : Type 0} (o : Algebra X) (s : List Symbol) (v : X) → AtExpr o s v → AtAtom o (Function ∷ Open ∷ (s ++ (Close ∷ []))) (o.call v)
+unfolding parse
+called_atom o s v h u zero p = absurd (omega arith)
+called_atom o s v h u (suc n) p =
+    let e = append_assoc s (Close ∷ []) u in
+    let size : length ((s ++ (Close ∷ [])) ++ u) ≡ length (s ++ (Close ∷ u)) = ap length e in
+    ap (λ x. next (parse o n expr x) (λ v r. close (o.call v) r)) e
+    ∙ ap (λ x. next x (λ v r. close (o.call v) r)) (expr_ends o s v h (Close ∷ u) n tt tt tt (omega arith))
+
+leaf_atom : {X : Type 0} (o : Algebra X) (s : Symbol) (v : X) → ((n : ℕ) (u : List Symbol) → parse o (suc n) atom (s ∷ u) ≡ Some (v, u)) → AtAtom o (s ∷ []) v
+leaf_atom o s v h u zero p = absurd (omega arith)
+leaf_atom o s v h u (suc n) p = h n u
+
+no_minus_append : (s t : List Symbol) → ((r : List Symbol) → NoMinus (s ++ r)) → (r : List Symbol) → NoMinus ((s ++ t) ++ r)
+no_minus_append s t h r = rw (append_assoc s t r) (h (t ++ r))
+
+pub ladder : {X : Type 0} (o : Algebra X) (t : Tree) → Formed t → Ladder o (rank t) (spelling t) (eval o t)
+unfolding parse
+ladder o (whole n) f = atom_ladder o _ _ (λ r. tt) (leaf_atom o (Whole n) (o.of_whole n) (λ n u. refl))
+ladder o real f = atom_ladder o _ _ (λ r. tt) (leaf_atom o Real (o.of_real) (λ n u. refl))
+ladder o pi f = atom_ladder o _ _ (λ r. tt) (leaf_atom o Pi (o.of_pi) (λ n u. refl))
+ladder o (plus l r) f = expr_ladder o _ _ (plus_expr o (spelling l) (spelling r) (eval o l) (eval o r) ((ladder o l f.0).as_expr) ((ladder o r f.1).as_term f.2))
+ladder o (minus l r) f = expr_ladder o _ _ (minus_expr o (spelling l) (spelling r) (eval o l) (eval o r) ((ladder o l f.0).as_expr) ((ladder o r f.1).as_term f.2))
+ladder o (times l r) f = term_ladder o _ _ (times_term o (spelling l) (spelling r) (eval o l) (eval o r) ((ladder o l f.0).as_term f.1) ((ladder o r f.2).as_factor f.3))
+ladder o (over l r) f = term_ladder o _ _ (over_term o (spelling l) (spelling r) (eval o l) (eval o r) ((ladder o l f.0).as_term f.1) ((ladder o r f.2).as_factor f.3))
+ladder o (opposite t) f = factor_ladder o _ _ (opposite_factor o (spelling t) (eval o t) ((ladder o t f.0).as_factor f.1))
+ladder o (raised l r) f =
+    let q = f.1 in
+    power_ladder o _ _ (no_minus_append (spelling l) (Caret ∷ spelling r) ((ladder o l f.0).front (omega arith)))
+    (raised_power o (spelling l) (spelling r) (eval o l) (eval o r) ((ladder o l f.0).as_atom f.1) ((ladder o r f.2).as_factor f.3))
+ladder o (called t) f = atom_ladder o _ _ (λ r. tt) (called_atom o (spelling t) (eval o t) ((ladder o t f).as_expr))
+ladder o (group t) f = atom_ladder o _ _ (λ r. tt) (group_atom o (spelling t) (eval o t) ((ladder o t f).as_expr))
