@@ -22,8 +22,8 @@ cases_parts : (o : Option Parts) (v : ℕ) → ((p : Parts) × (o ≡ Some p) ×
 cases_parts None v = inr (λ p e. cc)
 cases_parts (Some q) v =
     elim (cases_eq q.var v) [
-    | inl e ↦ inl (q, refl, e)
-    | inr h ↦ inr (λ p e at. h (ap (λ (r : Parts). r.var) (some_same q p e) ∙ at))
+      | inl e ↦ inl (q, refl, e)
+      | inr h ↦ inr (λ p e at. h (ap (λ (r : Parts). r.var) (some_same q p e) ∙ at))
     ]
 
 pub cases_var : (s : List (Option Parts)) (v n : ℕ) → HasVar s v n ⊎ LacksVar s v n
@@ -45,8 +45,8 @@ pub has_not-parts : (w v : ℕ) (ws : List ℕ) → has (w ∷ ws) v ≡ false �
 unfolding has
 has_not-parts w v ws h =
     elim (cases_Bool (eqb w v)) [
-    | inl e ↦ absurd (false≢true (sym h ∙ cond-true (eqb w v) true (has ws v) e))
-    | inr e ↦ (eqb-false w v e, sym (cond-false (eqb w v) true (has ws v) e) ∙ h)
+      | inl e ↦ absurd (false≢true (sym h ∙ cond-true (eqb w v) true (has ws v) e))
+      | inr e ↦ (eqb-false w v e, sym (cond-false (eqb w v) true (has ws v) e) ∙ h)
     ]
 
 pub after-tail : (w v : ℕ) (ws : List ℕ) → w ≢ v → after (w ∷ ws) v ≡ after ws v
@@ -89,10 +89,10 @@ live-rest s v vs n lacks (inr h) = inr (record { parts = h.parts; is = h.is; bel
 pub live-follow : (s : List (Option Parts)) (v : ℕ) (vs : List ℕ) (n : ℕ) → AreProper s (v ∷ vs) → IsLiveIn s (v ∷ vs) n → (b : Bool) → IsLiveIn s vs (follow s v b n)
 live-follow s v vs n proper live b =
     elim (cases_var s v n) [
-    | inl at ↦
-        let h = live-child s (v ∷ vs) at.0 (proper n at.0 at.1 (has-here v vs at.0.var at.2)) b in
-        rw (follow-at s v n at.0 at.1 at.2 b, sym (after-head v at.0.var vs (sym at.2))) h
-    | inr lacks ↦ rw (follow-other s v n lacks b) (live-rest s v vs n lacks live)
+      | inl at ↦
+          let h = live-child s (v ∷ vs) at.0 (proper n at.0 at.1 (has-here v vs at.0.var at.2)) b in
+          rw (follow-at s v n at.0 at.1 at.2 b, sym (after-head v at.0.var vs (sym at.2))) h
+      | inr lacks ↦ rw (follow-other s v n lacks b) (live-rest s v vs n lacks live)
     ]
 
 parts_same : (p q : Parts) → p.var ≡ q.var → p.low ≡ q.low → p.high ≡ q.high → p ≡ q
@@ -110,30 +110,30 @@ one_lacks s v vs n m proper same a c =
 pub same_from_follow : (s : List (Option Parts)) (v : ℕ) (vs : List ℕ) (n m : ℕ) → AreProper s (v ∷ vs) → AreUnique s → ((b : Bool) → follow s v b n ≡ follow s v b m) → n ≡ m
 same_from_follow s v vs n m proper unique same =
     elim (cases_var s v n) [
-    | inl a ↦ elim (cases_var s v m) [
-      | inl c ↦
-        let low : a.0.low ≡ c.0.low = sym (follow-at s v n a.0 a.1 a.2 false) ∙ same false ∙ follow-at s v m c.0 c.1 c.2 false in
-        let high : a.0.high ≡ c.0.high = sym (follow-at s v n a.0 a.1 a.2 true) ∙ same true ∙ follow-at s v m c.0 c.1 c.2 true in
-        let e = parts_same c.0 a.0 (c.2 ∙ sym a.2) (sym low) (sym high) in
-        unique n m a.0 a.1 (c.1 ∙ ap (λ p. Some p) e)
-      | inr c ↦ absurd (one_lacks s v vs n m proper same a c)
+      | inl a ↦ elim (cases_var s v m) [
+        | inl c ↦
+            let low : a.0.low ≡ c.0.low = sym (follow-at s v n a.0 a.1 a.2 false) ∙ same false ∙ follow-at s v m c.0 c.1 c.2 false in
+            let high : a.0.high ≡ c.0.high = sym (follow-at s v n a.0 a.1 a.2 true) ∙ same true ∙ follow-at s v m c.0 c.1 c.2 true in
+            let e = parts_same c.0 a.0 (c.2 ∙ sym a.2) (sym low) (sym high) in
+            unique n m a.0 a.1 (c.1 ∙ ap (λ p. Some p) e)
+        | inr c ↦ absurd (one_lacks s v vs n m proper same a c)
       ]
-    | inr a ↦ elim (cases_var s v m) [
-      | inl c ↦ absurd (one_lacks s v vs m n proper (λ b. sym (same b)) c a)
-      | inr c ↦ sym (follow-other s v n a true) ∙ same true ∙ follow-other s v m c true
+      | inr a ↦ elim (cases_var s v m) [
+        | inl c ↦ absurd (one_lacks s v vs m n proper (λ b. sym (same b)) c a)
+        | inr c ↦ sym (follow-other s v n a true) ∙ same true ∙ follow-other s v m c true
       ]
     ]
 
 small_same : (n m : ℕ) → n < 2 → m < 2 → eqb n 1 ≡ eqb m 1 → n ≡ m
 small_same n m hn hm e =
     elim (cases_eq n 1) [
-    | inl a ↦ elim (cases_eq m 1) [
-      | inl c ↦ a ∙ sym c
-      | inr c ↦ absurd (false≢true (sym (ne_eqb m 1 c) ∙ sym e ∙ eq-eqb n 1 a))
+      | inl a ↦ elim (cases_eq m 1) [
+        | inl c ↦ a ∙ sym c
+        | inr c ↦ absurd (false≢true (sym (ne_eqb m 1 c) ∙ sym e ∙ eq-eqb n 1 a))
       ]
-    | inr a ↦ elim (cases_eq m 1) [
-      | inl c ↦ absurd (false≢true (sym (ne_eqb n 1 a) ∙ e ∙ eq-eqb m 1 c))
-      | inr c ↦ omega arith
+      | inr a ↦ elim (cases_eq m 1) [
+        | inl c ↦ absurd (false≢true (sym (ne_eqb n 1 a) ∙ e ∙ eq-eqb m 1 c))
+        | inr c ↦ omega arith
       ]
     ]
 
@@ -162,6 +162,6 @@ same_node s k [] n m vars proper unique ln lm same =
 same_node s k (v ∷ vs) n m vars proper unique ln lm same =
     let rest = proper-tail s v vs vars.1 proper in
     same_from_follow s v vs n m proper unique (λ b.
-      same_node s k vs (follow s v b n) (follow s v b m) vars.2 rest unique
-      (live-follow s v vs n proper ln b) (live-follow s v vs m proper lm b)
-      (same_fixed s v vs n m vars.1 same b))
+    same_node s k vs (follow s v b n) (follow s v b m) vars.2 rest unique
+    (live-follow s v vs n proper ln b) (live-follow s v vs m proper lm b)
+    (same_fixed s v vs n m vars.1 same b))

@@ -43,8 +43,8 @@ value-extends d e n sd se ext live x =
 pub keeps_put : (s t : List (Option Parts)) (n : ℕ) (p : Parts) → PutsNode s t n p → Keeps s t
 keeps_put s t n p puts m q is =
     elim (cases_eq m n) [
-    | inl e ↦ absurd (none_some q (sym puts.free ∙ ap (λ t. parts_of s t) (sym e) ∙ is))
-    | inr ne ↦ puts.others m ne ∙ is
+      | inl e ↦ absurd (none_some q (sym puts.free ∙ ap (λ t. parts_of s t) (sym e) ∙ is))
+      | inr ne ↦ puts.others m ne ∙ is
     ]
 
 pub proper-keeps : (s t : List (Option Parts)) (vs : List ℕ) (p : Parts) → Keeps s t → IsProper s vs p → IsProper t vs p
@@ -53,7 +53,6 @@ proper-keeps s t vs p keeps h =
 
 pub here : (s t : List (Option Parts)) (n : ℕ) (p : Parts) → PutsNode s t n p → (m : ℕ) (q : Parts) → m ≡ n → parts_of t m ≡ Some q → p ≡ q
 here s t n p puts m q e is = some_same p q (sym puts.here ∙ ap (λ l. parts_of t l) (sym e) ∙ is)
-
 
 -- the rules still hold once a proper node of new parts is added
 pub diagram_put : (s t : List (Option Parts)) (k : ℕ) (vs : List ℕ) (n : ℕ) (p : Parts) → IsDiagram s k vs → PutsNode s t n p → 2 ≤ n → has vs p.var ≡ true → IsProper s vs p → ((m : ℕ) → parts_of s m ≢ Some p) → IsDiagram t k vs
@@ -65,19 +64,19 @@ diagram_put s t k vs n p d puts big below proper new =
       within = λ m q is. elim (cases_eq m n) [
         | inl e ↦ rw (sym (here s t n p puts m q e is)) below
         | inr ne ↦ d.within m q (sym (puts.others m ne) ∙ is)
-        ];
+      ];
       proper = λ m q is h. elim (cases_eq m n) [
         | inl e ↦ let g = proper-keeps s t vs p keeps proper in rw (sym (here s t n p puts m q e is)) g
         | inr ne ↦ proper-keeps s t vs q keeps (d.proper m q (sym (puts.others m ne) ∙ is) h)
-        ];
+      ];
       unique = λ m l q im il. elim (cases_eq m n) [
         | inl e ↦ elim (cases_eq l n) [
           | inl f ↦ e ∙ sym f
           | inr nf ↦ absurd (new l (sym (puts.others l nf) ∙ il ∙ ap (λ r. Some r) (sym (here s t n p puts m q e im))))
-          ]
+        ]
         | inr ne ↦ elim (cases_eq l n) [
           | inl f ↦ absurd (new m (sym (puts.others m ne) ∙ im ∙ ap (λ r. Some r) (sym (here s t n p puts l q f il))))
           | inr nf ↦ d.unique m l q (sym (puts.others m ne) ∙ im) (sym (puts.others l nf) ∙ il)
-          ]
-        ];
+        ]
+      ];
     }

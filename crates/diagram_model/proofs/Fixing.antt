@@ -21,8 +21,8 @@ unfolding has
 proper_from s k [] v vars proper h = absurd (false≢true h)
 proper_from s k (u ∷ us) v vars proper h =
     elim (cases_eq u v) [
-    | inl e ↦ ap_proper s (u ∷ us) (from (u ∷ us) v) (ap (λ w. w ∷ us) e ∙ ap (λ l. v ∷ l) (sym (after-head u v us e))) proper
-    | inr ne ↦ ap_proper s (from us v) (from (u ∷ us) v) (ap (λ l. v ∷ l) (sym (after-tail u v us ne))) (proper_from s k us v vars.2 (proper-tail s u us vars.1 proper) (has-tail u v us h ne))
+      | inl e ↦ ap_proper s (u ∷ us) (from (u ∷ us) v) (ap (λ w. w ∷ us) e ∙ ap (λ l. v ∷ l) (sym (after-head u v us e))) proper
+      | inr ne ↦ ap_proper s (from us v) (from (u ∷ us) v) (ap (λ l. v ∷ l) (sym (after-tail u v us ne))) (proper_from s k us v vars.2 (proper-tail s u us vars.1 proper) (has-tail u v us h ne))
     ]
 
 -- a node is left with what stands below the variable once that is fixed
@@ -36,18 +36,18 @@ above_live d v n live = live-wider d.slots (after d.order v) d.order n (λ w. ha
 pub value_follow : (d : Diagram) (v n : ℕ) → IsSound d → IsLive d n → (x : ℕ → Bool) → value d.slots d.order x n ≡ value d.slots d.order x (follow d.slots v (x v) n)
 value_follow d v n s live x =
     elim (cases_var d.slots v n) [
-    | inl at ↦
-      value-node d.slots (length d.order) d.order n at.0 s.diagram at.1 (s.diagram.within n at.0 at.1) x
-      ∙ ap (λ b. value d.slots d.order x (child (x b) at.0)) at.2
-      ∙ ap (λ m. value d.slots d.order x m) (sym (follow-at d.slots v n at.0 at.1 at.2 (x v)))
-    | inr lacks ↦ ap (λ m. value d.slots d.order x m) (sym (follow-other d.slots v n lacks (x v)))
+      | inl at ↦
+          value-node d.slots (length d.order) d.order n at.0 s.diagram at.1 (s.diagram.within n at.0 at.1) x
+          ∙ ap (λ b. value d.slots d.order x (child (x b) at.0)) at.2
+          ∙ ap (λ m. value d.slots d.order x m) (sym (follow-at d.slots v n at.0 at.1 at.2 (x v)))
+      | inr lacks ↦ ap (λ m. value d.slots d.order x m) (sym (follow-other d.slots v n lacks (x v)))
     ]
 
 pub depth_follow : (d : Diagram) (v n : ℕ) (b : Bool) → IsSound d → depth d (follow d.slots v b n) ≤ depth d n
 depth_follow d v n b s =
     elim (cases_var d.slots v n) [
-    | inl at ↦ let h = steps_down d n at.0 b s (sym at.1) in rw (follow-at d.slots v n at.0 at.1 at.2 b) (omega (arith, h.less))
-    | inr lacks ↦ rw (follow-other d.slots v n lacks b) (omega arith)
+      | inl at ↦ let h = steps_down d n at.0 b s (sym at.1) in rw (follow-at d.slots v n at.0 at.1 at.2 b) (omega (arith, h.less))
+      | inr lacks ↦ rw (follow-other d.slots v n lacks b) (omega arith)
     ]
 
 pub depth_falls : (d : Diagram) (v n : ℕ) (b : Bool) → IsSound d → HasVariable d v n → depth d (follow d.slots v b n) < depth d n
@@ -57,8 +57,8 @@ depth_falls d v n b s at = let h = steps_down d n at.0 b s (sym at.1) in rw (fol
 pub from_after : (k : ℕ) (vs : List ℕ) (w v u : ℕ) → AreVars k vs → has (after vs w) v ≡ true → has (from vs v) u ≡ true → has (after vs w) u ≡ true
 from_after k vs w v u vars below h =
     elim (cases_eq v u) [
-    | inl e ↦ ap (has (after vs w)) (sym e) ∙ below
-    | inr ne ↦ has-after (after vs w) v u (ap (λ l. has l u) (sym (after-after k vs w v vars below)) ∙ has-tail v u (after vs v) h ne)
+      | inl e ↦ ap (has (after vs w)) (sym e) ∙ below
+      | inr ne ↦ has-after (after vs w) v u (ap (λ l. has l u) (sym (after-after k vs w v vars below)) ∙ has-tail v u (after vs v) h ne)
     ]
 
 pub var_above : (d : Diagram) (w v n : ℕ) → IsSound d → HasVariable d v n → IsAbove d w n → has (after d.order w) v ≡ true
@@ -79,8 +79,8 @@ unfolding after has
 after_self k [] v vars = refl
 after_self k (w ∷ ws) v vars =
     elim (cases_eq w v) [
-    | inl e ↦ ap (λ l. has l v) (cond-true (eqb w v) ws (after ws v) (eq-eqb w v e)) ∙ ap (has ws) (sym e) ∙ vars.1
-    | inr ne ↦ ap (λ l. has l v) (cond-false (eqb w v) ws (after ws v) (ne_eqb w v ne)) ∙ after_self k ws v vars.2
+      | inl e ↦ ap (λ l. has l v) (cond-true (eqb w v) ws (after ws v) (eq-eqb w v e)) ∙ ap (has ws) (sym e) ∙ vars.1
+      | inr ne ↦ ap (λ l. has l v) (cond-false (eqb w v) ws (after ws v) (ne_eqb w v ne)) ∙ after_self k ws v vars.2
     ]
 
 -- what is left of a node that stands below w reads no variable that isn't below w
@@ -89,18 +89,18 @@ unfolding walk after
 walk_ignores s k [] w u n b x ground vars live out = refl
 walk_ignores s k (v ∷ vs) w u n b x ground vars live out =
     elim (cases_eq v w) [
-    | inl e ↦
-      let same : after (v ∷ vs) w ≡ vs = cond-true (eqb v w) vs (after vs w) (eq-eqb v w e) in
-      let live_rest : IsLiveIn s vs n = rw (sym same) live in
-      let lacks : LacksVar s v n = live-lacks s vs v n ground vars.1 live_rest in
-      let out_rest : has vs u ≡ false = ap (λ l. has l u) (sym same) ∙ out in
-      ap (λ m. walk s vs (put x u b) m) (follow-other s v n lacks (put x u b v)) ∙ walk-put s vs x u b n out_rest ∙ ap (λ m. walk s vs x m) (sym (follow-other s v n lacks (x v)))
-    | inr ne ↦
-      let same : after (v ∷ vs) w ≡ after vs w = cond-false (eqb v w) vs (after vs w) (ne_eqb v w ne) in
-      let live_rest : IsLiveIn s (after vs w) n = rw (sym same) live in
-      let lacks : LacksVar s v n = live-lacks s (after vs w) v n ground (has_not-after vs w v vars.1) live_rest in
-      let out_rest : has (after vs w) u ≡ false = ap (λ l. has l u) (sym same) ∙ out in
-      ap (λ m. walk s vs (put x u b) m) (follow-other s v n lacks (put x u b v)) ∙ walk_ignores s k vs w u n b x ground vars.2 live_rest out_rest ∙ ap (λ m. walk s vs x m) (sym (follow-other s v n lacks (x v)))
+      | inl e ↦
+          let same : after (v ∷ vs) w ≡ vs = cond-true (eqb v w) vs (after vs w) (eq-eqb v w e) in
+          let live_rest : IsLiveIn s vs n = rw (sym same) live in
+          let lacks : LacksVar s v n = live-lacks s vs v n ground vars.1 live_rest in
+          let out_rest : has vs u ≡ false = ap (λ l. has l u) (sym same) ∙ out in
+          ap (λ m. walk s vs (put x u b) m) (follow-other s v n lacks (put x u b v)) ∙ walk-put s vs x u b n out_rest ∙ ap (λ m. walk s vs x m) (sym (follow-other s v n lacks (x v)))
+      | inr ne ↦
+          let same : after (v ∷ vs) w ≡ after vs w = cond-false (eqb v w) vs (after vs w) (ne_eqb v w ne) in
+          let live_rest : IsLiveIn s (after vs w) n = rw (sym same) live in
+          let lacks : LacksVar s v n = live-lacks s (after vs w) v n ground (has_not-after vs w v vars.1) live_rest in
+          let out_rest : has (after vs w) u ≡ false = ap (λ l. has l u) (sym same) ∙ out in
+          ap (λ m. walk s vs (put x u b) m) (follow-other s v n lacks (put x u b v)) ∙ walk_ignores s k vs w u n b x ground vars.2 live_rest out_rest ∙ ap (λ m. walk s vs x m) (sym (follow-other s v n lacks (x v)))
     ]
 
 -- a node that stands below u doesn't read u
@@ -124,6 +124,6 @@ fix_function d v n b s is live =
     let m = follow d.slots v b n in
     let drops : Ignores (function_of d m) v = ignores_above d v m s (follow_above d v n b s is live) in
     fun_ext (λ x.
-      value_follow d v n s (live_from_order d v n is live) (put x v b)
-      ∙ ap (λ c. value d.slots d.order (put x v b) (follow d.slots v c n)) (put_at x v b)
-      ∙ ap (λ (g : Function). g x) (drops b))
+    value_follow d v n s (live_from_order d v n is live) (put x v b)
+    ∙ ap (λ c. value d.slots d.order (put x v b) (follow d.slots v c n)) (put_at x v b)
+    ∙ ap (λ (g : Function). g x) (drops b))

@@ -31,15 +31,15 @@ unfolding has
 has_from [] u v hu hv le = absurd (false≢true hu)
 has_from (w ∷ ws) u v hu hv le =
     elim (cases_eq w v) [
-    | inl e ↦ elim (cases_eq w u) [
-      | inl f ↦ has-here v (after (w ∷ ws) v) u (sym f ∙ e)
-      | inr nf ↦ has-head v u (after (w ∷ ws) v) (ap (λ l. has l u) (after-head w v ws e) ∙ has-tail w u ws hu nf)
+      | inl e ↦ elim (cases_eq w u) [
+        | inl f ↦ has-here v (after (w ∷ ws) v) u (sym f ∙ e)
+        | inr nf ↦ has-head v u (after (w ∷ ws) v) (ap (λ l. has l u) (after-head w v ws e) ∙ has-tail w u ws hu nf)
       ]
-    | inr ne ↦ elim (cases_eq w u) [
-      | inl f ↦ absurd (omega (arith, le, ap length (after-head w u ws f), ap length (after-tail w v ws ne), length-after ws v (has-tail w v ws hv ne)))
-      | inr nf ↦
-        let rest = has_from ws u v (has-tail w u ws hu nf) (has-tail w v ws hv ne) (omega (arith, le, ap length (after-tail w u ws nf), ap length (after-tail w v ws ne))) in
-        ap (λ l. has (v ∷ l) u) (after-tail w v ws ne) ∙ rest
+      | inr ne ↦ elim (cases_eq w u) [
+        | inl f ↦ absurd (omega (arith, le, ap length (after-head w u ws f), ap length (after-tail w v ws ne), length-after ws v (has-tail w v ws hv ne)))
+        | inr nf ↦
+            let rest = has_from ws u v (has-tail w u ws hu nf) (has-tail w v ws hv ne) (omega (arith, le, ap length (after-tail w u ws nf), ap length (after-tail w v ws ne))) in
+            ap (λ l. has (v ∷ l) u) (after-tail w v ws ne) ∙ rest
       ]
     ]
 

@@ -110,7 +110,6 @@ unfolding same_truths
 same_truths-refl [] = refl
 same_truths-refl (t ∷ ts) = ap (λ b. b && same_truths ts ts) (same_bool-refl t) ∙ same_truths-refl ts
 
-
 -- nodes whose truth lists agree denote the same function
 same_from_truths : (s : List (Option Parts)) (k : ℕ) (vs : List ℕ) (n m : ℕ) → AreVars k vs → same_truths (truths k (denoted s vs n)) (truths k (denoted s vs m)) ≡ true → SameFunction s vs n m
 unfolding truths value
@@ -123,10 +122,10 @@ same_from_truths s k vs n m vars same x =
 truths_tell : (s : List (Option Parts)) (k : ℕ) (vs : List ℕ) (n m : ℕ) → AreVars k vs → AreProper s vs → AreUnique s → IsLiveIn s vs n → IsLiveIn s vs m → same_truths (truths k (denoted s vs n)) (truths k (denoted s vs m)) ≡ eqb n m
 truths_tell s k vs n m vars proper unique ln lm =
     elim (cases_eq n m) [
-    | inl e ↦ ap (λ l. same_truths (truths k (denoted s vs n)) (truths k (denoted s vs l))) (sym e) ∙ same_truths-refl (truths k (denoted s vs n)) ∙ sym (eq-eqb n m e)
-    | inr ne ↦ elim (cases_Bool (same_truths (truths k (denoted s vs n)) (truths k (denoted s vs m)))) [
-      | inl e ↦ absurd (ne (same_node s k vs n m vars proper unique ln lm (same_from_truths s k vs n m vars e)))
-      | inr e ↦ e ∙ sym (ne_eqb n m ne)
+      | inl e ↦ ap (λ l. same_truths (truths k (denoted s vs n)) (truths k (denoted s vs l))) (sym e) ∙ same_truths-refl (truths k (denoted s vs n)) ∙ sym (eq-eqb n m e)
+      | inr ne ↦ elim (cases_Bool (same_truths (truths k (denoted s vs n)) (truths k (denoted s vs m)))) [
+        | inl e ↦ absurd (ne (same_node s k vs n m vars proper unique ln lm (same_from_truths s k vs n m vars e)))
+        | inr e ↦ e ∙ sym (ne_eqb n m ne)
       ]
     ]
 
@@ -145,15 +144,15 @@ depends_is s k v vs n vars proper unique live =
     let rest = proper-tail s v vs vars.1 proper in
     let told = truths_tell s k vs low high vars.2 rest unique (live-follow s v vs n proper live false) (live-follow s v vs n proper live true) in
     let fixed : same_truths (truths k (fix v false (denoted s (v ∷ vs) n))) (truths k (fix v true (denoted s (v ∷ vs) n))) ≡ eqb low high =
-      ap (λ f. same_truths (truths k f) (truths k (fix v true (denoted s (v ∷ vs) n)))) (fixed_function s v vs n vars.1 false)
-      ∙ ap (λ g. same_truths (truths k (denoted s vs low)) (truths k g)) (fixed_function s v vs n vars.1 true) ∙ told in
+    ap (λ f. same_truths (truths k f) (truths k (fix v true (denoted s (v ∷ vs) n)))) (fixed_function s v vs n vars.1 false)
+    ∙ ap (λ g. same_truths (truths k (denoted s vs low)) (truths k g)) (fixed_function s v vs n vars.1 true) ∙ told in
     ap not fixed ∙ elim (cases_var s v n) [
-    | inl at ↦
-      let ne : low ≢ high = λ e. (proper n at.0 at.1 (has-here v vs at.0.var at.2)).differ (sym (follow-at s v n at.0 at.1 at.2 false) ∙ e ∙ follow-at s v n at.0 at.1 at.2 true) in
-      ap not (ne_eqb low high ne) ∙ sym (has_var-true (parts_of s n) v at.0 at.1 at.2)
-    | inr lacks ↦
-      let e : low ≡ high = follow-other s v n lacks false ∙ sym (follow-other s v n lacks true) in
-      ap not (eq-eqb low high e) ∙ sym (has_var-false (parts_of s n) v lacks)
+      | inl at ↦
+          let ne : low ≢ high = λ e. (proper n at.0 at.1 (has-here v vs at.0.var at.2)).differ (sym (follow-at s v n at.0 at.1 at.2 false) ∙ e ∙ follow-at s v n at.0 at.1 at.2 true) in
+          ap not (ne_eqb low high ne) ∙ sym (has_var-true (parts_of s n) v at.0 at.1 at.2)
+      | inr lacks ↦
+          let e : low ≡ high = follow-other s v n lacks false ∙ sym (follow-other s v n lacks true) in
+          ap not (eq-eqb low high e) ∙ sym (has_var-false (parts_of s n) v lacks)
     ]
 
 -- each number of the list satisfies P
@@ -166,8 +165,8 @@ each_filter P test [] h = tt
 each_filter P test (n ∷ ns) h =
     let rest = each_filter P test ns h.1 in
     elim (cases_Bool (test n)) [
-    | inl e ↦ rw (cond-true (test n) (n ∷ filter test ns) (filter test ns) e) (h.0, rest)
-    | inr e ↦ rw (cond-false (test n) (n ∷ filter test ns) (filter test ns) e) rest
+      | inl e ↦ rw (cond-true (test n) (n ∷ filter test ns) (filter test ns) e) (h.0, rest)
+      | inr e ↦ rw (cond-false (test n) (n ∷ filter test ns) (filter test ns) e) rest
     ]
 
 module _ (P : ℕ → Type 0) (g : ℕ → List Bool) (tells : (n m : ℕ) → P n → P m → same_truths (g n) (g m) ≡ eqb n m) where
@@ -182,12 +181,12 @@ module _ (P : ℕ → Type 0) (g : ℕ → List Bool) (tells : (n m : ℕ) → P
       let same = member_map n ns h.0 h.1 in
       let rest = count_map ns h.1 in
       elim (cases_Bool (is_member eqb ns n)) [
-      | inl e ↦
-        ap length (cond-true (is_member same_truths (map g ns) (g n)) (unique_keys same_truths (map g ns)) (g n ∷ unique_keys same_truths (map g ns)) (same ∙ e))
-        ∙ rest ∙ ap length (sym (cond-true (is_member eqb ns n) (unique_keys eqb ns) (n ∷ unique_keys eqb ns) e))
-      | inr e ↦
-        ap length (cond-false (is_member same_truths (map g ns) (g n)) (unique_keys same_truths (map g ns)) (g n ∷ unique_keys same_truths (map g ns)) (same ∙ e))
-        ∙ ap suc rest ∙ ap length (sym (cond-false (is_member eqb ns n) (unique_keys eqb ns) (n ∷ unique_keys eqb ns) e))
+        | inl e ↦
+            ap length (cond-true (is_member same_truths (map g ns) (g n)) (unique_keys same_truths (map g ns)) (g n ∷ unique_keys same_truths (map g ns)) (same ∙ e))
+            ∙ rest ∙ ap length (sym (cond-true (is_member eqb ns n) (unique_keys eqb ns) (n ∷ unique_keys eqb ns) e))
+        | inr e ↦
+            ap length (cond-false (is_member same_truths (map g ns) (g n)) (unique_keys same_truths (map g ns)) (g n ∷ unique_keys same_truths (map g ns)) (same ∙ e))
+            ∙ ap suc rest ∙ ap length (sym (cond-false (is_member eqb ns n) (unique_keys eqb ns) (n ∷ unique_keys eqb ns) e))
       ]
 
   filter_map_same : (F : ℕ → Function) (test : Function → Bool) (own : ℕ → Bool) → ((n : ℕ) → P n → test (F n) ≡ own n) → (ns : List ℕ) → Each P ns → filter test (map F ns) ≡ map F (filter own ns)
@@ -195,8 +194,8 @@ module _ (P : ℕ → Type 0) (g : ℕ → List Bool) (tells : (n m : ℕ) → P
   filter_map_same F test own e (n ∷ ns) h =
       let rest = filter_map_same F test own e ns h.1 in
       elim (cases_Bool (own n)) [
-      | inl t ↦ cond-true (test (F n)) (F n ∷ filter test (map F ns)) (filter test (map F ns)) (e n h.0 ∙ t) ∙ ap (λ l. F n ∷ l) rest ∙ ap (map F) (sym (cond-true (own n) (n ∷ filter own ns) (filter own ns) t))
-      | inr t ↦ cond-false (test (F n)) (F n ∷ filter test (map F ns)) (filter test (map F ns)) (e n h.0 ∙ t) ∙ rest ∙ ap (map F) (sym (cond-false (own n) (n ∷ filter own ns) (filter own ns) t))
+        | inl t ↦ cond-true (test (F n)) (F n ∷ filter test (map F ns)) (filter test (map F ns)) (e n h.0 ∙ t) ∙ ap (λ l. F n ∷ l) rest ∙ ap (map F) (sym (cond-true (own n) (n ∷ filter own ns) (filter own ns) t))
+        | inr t ↦ cond-false (test (F n)) (F n ∷ filter test (map F ns)) (filter test (map F ns)) (e n h.0 ∙ t) ∙ rest ∙ ap (map F) (sym (cond-false (own n) (n ∷ filter own ns) (filter own ns) t))
       ]
 
 map_map : (F : ℕ → Function) (t : Function → List Bool) (ns : List ℕ) → map t (map F ns) ≡ map (λ n. t (F n)) ns

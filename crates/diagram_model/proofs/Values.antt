@@ -13,9 +13,9 @@ pub has-after : (vs : List ℕ) (w v : ℕ) → has (after vs w) v ≡ true → 
 unfolding after
 has-after [] w v h = h
 has-after (u ∷ us) w v h = has-head u v us (elim (cases_Bool (eqb u w)) [
-    | inl e ↦ ap (λ l. has l v) (sym (cond-true (eqb u w) us (after us w) e)) ∙ h
-    | inr e ↦ has-after us w v (ap (λ l. has l v) (sym (cond-false (eqb u w) us (after us w) e)) ∙ h)
-    ])
+  | inl e ↦ ap (λ l. has l v) (sym (cond-true (eqb u w) us (after us w) e)) ∙ h
+  | inr e ↦ has-after us w v (ap (λ l. has l v) (sym (cond-false (eqb u w) us (after us w) e)) ∙ h)
+])
 
 pub has_not-after : (vs : List ℕ) (w v : ℕ) → has vs v ≡ false → has (after vs w) v ≡ false
 has_not-after vs w v h = elim (cases_Bool (has (after vs w) v)) [ inl e ↦ absurd (false≢true (sym h ∙ has-after vs w v e)) | inr e ↦ e ]
@@ -29,14 +29,14 @@ unfolding after
 after-after k [] w v vars h = refl
 after-after k (u ∷ us) w v vars h =
     elim (cases_Bool (eqb u w)) [
-    | inl e ↦
-        let here : after (u ∷ us) w ≡ us = cond-true (eqb u w) us (after us w) e in
-        let below : has us v ≡ true = ap (λ l. has l v) (sym here) ∙ h in
-        after-tail u v us (not_head u v us vars.1 below) ∙ ap (λ l. after l v) (sym here)
-    | inr e ↦
-        let there : after (u ∷ us) w ≡ after us w = cond-false (eqb u w) us (after us w) e in
-        let below : has (after us w) v ≡ true = ap (λ l. has l v) (sym there) ∙ h in
-        after-tail u v us (not_head u v us vars.1 (has-after us w v below)) ∙ after-after k us w v vars.2 below ∙ ap (λ l. after l v) (sym there)
+      | inl e ↦
+          let here : after (u ∷ us) w ≡ us = cond-true (eqb u w) us (after us w) e in
+          let below : has us v ≡ true = ap (λ l. has l v) (sym here) ∙ h in
+          after-tail u v us (not_head u v us vars.1 below) ∙ ap (λ l. after l v) (sym here)
+      | inr e ↦
+          let there : after (u ∷ us) w ≡ after us w = cond-false (eqb u w) us (after us w) e in
+          let below : has (after us w) v ≡ true = ap (λ l. has l v) (sym there) ∙ h in
+          after-tail u v us (not_head u v us vars.1 (has-after us w v below)) ∙ after-after k us w v vars.2 below ∙ ap (λ l. after l v) (sym there)
     ]
 
 pub length-after : (vs : List ℕ) (v : ℕ) → has vs v ≡ true → length (after vs v) < length vs
@@ -44,8 +44,8 @@ unfolding after has
 length-after [] v h = absurd (false≢true h)
 length-after (u ∷ us) v h =
     elim (cases_Bool (eqb u v)) [
-    | inl e ↦ omega (arith, ap length (cond-true (eqb u v) us (after us v) e))
-    | inr e ↦ omega (arith, ap length (cond-false (eqb u v) us (after us v) e), length-after us v (sym (cond-false (eqb u v) true (has us v) e) ∙ h))
+      | inl e ↦ omega (arith, ap length (cond-true (eqb u v) us (after us v) e))
+      | inr e ↦ omega (arith, ap length (cond-false (eqb u v) us (after us v) e), length-after us v (sym (cond-false (eqb u v) true (has us v) e) ∙ h))
     ]
 
 pub live-wider : (s : List (Option Parts)) (vs ws : List ℕ) (n : ℕ) → ((v : ℕ) → has vs v ≡ true → has ws v ≡ true) → IsLiveIn s vs n → IsLiveIn s ws n
@@ -69,15 +69,15 @@ walk-node s k (v ∷ vs) n p ground vars proper is below x =
     let c = child (x p.var) p in
     let live : IsLiveIn s (after (v ∷ vs) p.var) c = live-child s (v ∷ vs) p (proper n p is below) (x p.var) in
     elim (cases_eq v p.var) [
-    | inl e ↦
-        let live_rest : IsLiveIn s vs c = rw (sym (after-head v p.var vs e)) live in
-        let stays : follow s v (x v) c ≡ c = follow-other s v c (live-lacks s vs v c ground vars.1 live_rest) (x v) in
-        ap (λ m. walk s vs x m) (follow-at s v n p is (sym e) (x v) ∙ ap (λ t. child (x t) p) e ∙ sym stays)
-    | inr ne ↦
-        let live_rest : IsLiveIn s (after vs p.var) c = rw (sym (after-tail v p.var vs ne)) live in
-        let stays : follow s v (x v) c ≡ c = follow-other s v c (live-lacks s (after vs p.var) v c ground (has_not-after vs p.var v vars.1) live_rest) (x v) in
-        let kept : follow s v (x v) n ≡ n = follow-other s v n (λ q qs at. ne (sym at ∙ ap (λ (r : Parts). r.var) (some_same q p (sym qs ∙ is)))) (x v) in
-        ap (λ m. walk s vs x m) kept ∙ walk-node s k vs n p ground vars.2 (proper-tail s v vs vars.1 proper) is (has-tail v p.var vs below ne) x ∙ ap (λ m. walk s vs x m) (sym stays)
+      | inl e ↦
+          let live_rest : IsLiveIn s vs c = rw (sym (after-head v p.var vs e)) live in
+          let stays : follow s v (x v) c ≡ c = follow-other s v c (live-lacks s vs v c ground vars.1 live_rest) (x v) in
+          ap (λ m. walk s vs x m) (follow-at s v n p is (sym e) (x v) ∙ ap (λ t. child (x t) p) e ∙ sym stays)
+      | inr ne ↦
+          let live_rest : IsLiveIn s (after vs p.var) c = rw (sym (after-tail v p.var vs ne)) live in
+          let stays : follow s v (x v) c ≡ c = follow-other s v c (live-lacks s (after vs p.var) v c ground (has_not-after vs p.var v vars.1) live_rest) (x v) in
+          let kept : follow s v (x v) n ≡ n = follow-other s v n (λ q qs at. ne (sym at ∙ ap (λ (r : Parts). r.var) (some_same q p (sym qs ∙ is)))) (x v) in
+          ap (λ m. walk s vs x m) kept ∙ walk-node s k vs n p ground vars.2 (proper-tail s v vs vars.1 proper) is (has-tail v p.var vs below ne) x ∙ ap (λ m. walk s vs x m) (sym stays)
     ]
 
 -- The function of a held node, by its variable and its children.
@@ -111,8 +111,8 @@ unfolding has
 below-order k [] v vars h = absurd (false≢true h)
 below-order k (u ∷ us) v vars h =
     elim (cases_Bool (eqb u v)) [
-    | inl e ↦ let g = eqb-true u v e in omega (arith, vars.0)
-    | inr e ↦ below-order k us v vars.2 (sym (cond-false (eqb u v) true (has us v) e) ∙ h)
+      | inl e ↦ let g = eqb-true u v e in omega (arith, vars.0)
+      | inr e ↦ below-order k us v vars.2 (sym (cond-false (eqb u v) true (has us v) e) ∙ h)
     ]
 
 -- what a step down from a held node keeps

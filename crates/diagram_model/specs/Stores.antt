@@ -23,6 +23,10 @@ IsLive d n = IsLiveIn d.slots d.order n
 abbrev pub IsHeld : Diagram → ℕ → Type 0
 IsHeld d n = IsSome (parts_of d.slots n)
 
+-- n is held, with its parts
+abbrev pub HasParts : Diagram → ℕ → Type 0
+HasParts d n = (p : Parts) × (parts_of d.slots n ≡ Some p)
+
 -- v stands above n: n is FALSE, TRUE, or held with a variable below v
 abbrev pub IsAbove : Diagram → ℕ → ℕ → Type 0
 IsAbove d v n = IsLiveIn d.slots (after d.order v) n

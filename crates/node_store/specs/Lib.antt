@@ -1,3 +1,4 @@
 pub mod Makes
 pub mod Slots
 pub mod Stored
+pub mod Walks

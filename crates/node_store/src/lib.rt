@@ -2,6 +2,7 @@
 #![tactic(auto)]
 
 mod node;
+mod reach;
 mod slots;
 mod store;
 

@@ -22,6 +22,7 @@ const MOST_SLOTS: usize = 4_000_000_000;
 /// Slots with their tables: at most `limit` nodes are held, and no two have the same parts.
 #[derive(Drop)]
 pub struct Slots {
+    alloc: Global,
     order: Order,
     limit: u32,
     nodes: Slab<Parts>,
@@ -55,6 +56,7 @@ impl Slots {
             tables.push(NodeTable::new(alloc))?;
         }
         Ok(Slots {
+            alloc,
             order: Order::natural(vars),
             limit,
             nodes: Slab::new(alloc),
@@ -68,6 +70,10 @@ impl Slots {
         ensures slotted { IsSlotted self.now.diagram }
     {
         self.nodes.len() as u32
+    }
+
+    pub fn alloc(&self) -> Global {
+        self.alloc
     }
 
     pub fn limit(&self) -> u32

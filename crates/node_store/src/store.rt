@@ -92,7 +92,6 @@ impl Store {
         ensures var { result ≡ option_map (λ p. p.var) (parts_of self.now.slots n.0) }
         ensures none { IfNone result (n.0 < 2) }
     {
-        let _ = &self.slots;
         self.parts(n.0).map(|parts| parts.var)
     }
 
@@ -124,7 +123,6 @@ impl Store {
         requires len { length x.now ≡ length self.now.order }
         ensures { result ≡ value self.now.slots self.now.order (bit x.now) n.0 }
     {
-        let _ = &self.slots;
         let mut at = n.0;
         while let Some(parts) = self.parts(at) {
             at = parts.child(x.get(parts.var));
@@ -172,9 +170,18 @@ impl Store {
         self.add(var, low.0, high.0)
     }
 
-    fn parts(&self, n: u32) -> Option<Parts>
-        ensures { result ≡ parts_of self.now.slots n }
+    pub(crate) fn alloc(&self) -> Global
+        ensures sound { IsSound self.now }
     {
+        let _ = &self.slots;
+        self.slots.alloc()
+    }
+
+    pub(crate) fn parts(&self, n: u32) -> Option<Parts>
+        ensures value { result ≡ parts_of self.now.slots n }
+        ensures sound { IsSound self.now }
+    {
+        let _ = &self.slots;
         self.slots.parts(n)
     }
 
