@@ -30,7 +30,7 @@ impl Line {
     }
 
     /// The empty line.
-    pub(crate) fn new() -> Line
+    pub fn new() -> Line
         ensures { result ≡ [] }
     {
         Line {
@@ -38,7 +38,7 @@ impl Line {
         }
     }
 
-    pub(crate) fn add(&mut self, piece: &[u8])
+    pub fn add(&mut self, piece: &[u8])
         requires { length self.old + length piece.now ≤ 1024 }
         ensures { self.new ≡ self.old ++ piece.now }
     {
@@ -46,7 +46,7 @@ impl Line {
     }
 
     /// Adds a number in decimal digits, at most 40 bytes.
-    pub(crate) fn add_count(&mut self, n: u128)
+    pub fn add_count(&mut self, n: u128)
         requires { length self.old ≤ 984 }
         ensures text { self.new ≡ self.old ++ decimal n }
         ensures short { length self.new ≤ length self.old + 40 }
