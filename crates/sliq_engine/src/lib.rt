@@ -3,6 +3,7 @@
 
 mod cause;
 mod fronts;
+mod laws;
 mod message;
 mod output;
 mod plain_text;
@@ -11,5 +12,9 @@ mod top;
 mod words;
 
 pub use cause::{Cause, Ended};
+pub use laws::{one_cause, one_output, small_outputs};
 pub use plain_text::one_plain_reading;
-pub use top::run;
+pub use top::{end, run};
+
+#[cfg(test)]
+mod tests;

@@ -41,6 +41,16 @@ pub fn run<S: Shelf, K: Sink, E: Sink>(
     ensures err_counts { E.faults err.old ≤ E.faults err.new }
 {
     let cause = carry_out(alloc, words, shelf, out);
+    end(cause, err)
+}
+
+/// Says a cause on `err`, where it has lines there, and answers it with its status. It takes no memory.
+pub fn end<E: Sink>(cause: Cause, err: &mut E) -> Ended
+    ensures cause { result.cause ≡ cause }
+    ensures status { result.status ≡ status_of cause }
+    ensures err { Tells (lines_of cause) (E.written err.old) (E.written err.new) (E.faults err.old) (E.faults err.new) }
+    ensures counts { E.faults err.old ≤ E.faults err.new }
+{
     let lines = lines_of(cause);
     let _ = write_all(err, lines.as_bytes());
     Ended {
