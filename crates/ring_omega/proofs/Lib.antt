@@ -3,3 +3,4 @@ pub mod RingLaws
 pub mod BoundLemmas
 pub mod LowestLemmas
 pub mod LowestFormLemmas
+pub mod WeightLemmas

@@ -13,7 +13,7 @@ pub half-of_even : (z : ℤ) → is_even z ≡ true → half z +ℤ half z ≡ z
 half-of_even (pos n) t = let e = eqb-true (n % 2) 0 t in omega (arith, ints)
 half-of_even (negsuc n) t = let e = eqb-true (suc n % 2) 0 t in omega (arith, ints)
 
-is_even-of_double : (z h : ℤ) → z ≡ h +ℤ h → is_even z ≡ true
+pub is_even-of_double : (z h : ℤ) → z ≡ h +ℤ h → is_even z ≡ true
 is_even-of_double (pos n) h e = eq-eqb (n % 2) 0 (omega (arith, ints))
 is_even-of_double (negsuc n) h e = eq-eqb (suc n % 2) 0 (omega (arith, ints))
 

@@ -1,6 +1,7 @@
 use crate::{
-    Quad, lowest, lowest_form_is_lowest, lowest_form_is_unique, lowest_form_of_zero,
-    root_of_two_squared,
+    Quad, Weight, lowest, lowest_form_is_lowest, lowest_form_is_unique, lowest_form_of_zero,
+    lowest_weight, lowest_weight_form_is_lowest, lowest_weight_is_unique, lowest_weight_of_zero,
+    root_of_two_squared, weight_is_squared_magnitude,
 };
 
 const fn quad(a: i128, b: i128, c: i128, d: i128) -> Quad {
@@ -106,11 +107,61 @@ fn lowest_forms_of_numbers(rt: HostRuntime) {
 }
 
 #[test]
+fn weights_of_numbers(rt: HostRuntime) {
+    let half = 1 << 63;
+    let cases = [
+        (quad(0, 0, 1, 1), Some(Weight { a: 2, b: 1 })),
+        (quad(-1, -1, 0, -1), Some(Weight { a: 3, b: 0 })),
+        (quad(half, half, 0, 0), None),
+        (
+            quad(half, half - 1, 0, 0),
+            Some(Weight {
+                a: 170141183460469231713240559642174554113,
+                b: 85070591730234615856620279821087277056,
+            }),
+        ),
+        (quad(LOW, 0, 0, 0), None),
+    ];
+    for (number, expected) in cases {
+        assert_eq!(rt; number.weight(), expected, "the weight of {number:?}");
+    }
+}
+
+#[test]
+fn lowest_forms_of_weights(rt: HostRuntime) {
+    let cases = [
+        ((4, 8), 5, ((1, 2), 3)),
+        ((0, 0), 9, ((0, 0), 0)),
+        ((6, 2), 1, ((3, 1), 0)),
+        ((6, 3), 4, ((6, 3), 4)),
+        ((LOW, 0), u32::MAX, ((-1, 0), u32::MAX - 127)),
+    ];
+    for ((a, b), power, ((lowest_a, lowest_b), lowest_power)) in cases {
+        let expected = (
+            Weight {
+                a: lowest_a,
+                b: lowest_b,
+            },
+            lowest_power,
+        );
+        assert_eq!(rt;
+            lowest_weight(Weight { a, b }, power),
+            expected,
+            "{a} and {b} over the power {power}"
+        );
+    }
+}
+
+#[test]
 fn laws_can_be_called(rt: HostRuntime) {
     root_of_two_squared();
     lowest_form_is_unique();
     lowest_form_of_zero();
     lowest_form_is_lowest();
+    weight_is_squared_magnitude();
+    lowest_weight_is_unique();
+    lowest_weight_of_zero();
+    lowest_weight_form_is_lowest();
     assert!(rt; Quad::ZERO.is_zero());
     assert!(rt; !quad(0, 0, 0, 1).is_zero());
 }
