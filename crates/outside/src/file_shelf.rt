@@ -1,5 +1,5 @@
 //! A shelf over files. It tells no bytes.
-ghost use Rattle.std.specs.Prelude.{◌≤◌, IfSome, length};
+ghost use Rattle.std.specs.Prelude.{◌≡◌, ◌≤◌, ℕ, List, false, IfSome, length};
 
 use crate::{Failed, Shelf};
 use std::fs::File;
@@ -26,7 +26,10 @@ pub struct FileShelf<'a, R: Files + Input> {
 }
 
 impl<'a, R: Files + Input> FileShelf<'a, R> {
-    pub fn new(rt: &'a R) -> FileShelf<'a, R> {
+    pub fn new(rt: &'a R) -> FileShelf<'a, R>
+        ensures faults { (name : List ℕ) → ⟦<FileShelf<'a, R> as Shelf>⟧.faults result name ≡ 0 }
+        ensures ready { ⟦<FileShelf<'a, R> as Shelf>⟧.ready result ≡ false }
+    {
         FileShelf {
             rt,
             source: None,

@@ -1,5 +1,5 @@
 //! A sink over a standard stream. It tells no bytes.
-ghost use Rattle.std.specs.Prelude.{◌<◌, ◌≤◌, IfSome, length};
+ghost use Rattle.std.specs.Prelude.{◌≡◌, ◌<◌, ◌≤◌, IfSome, length};
 
 use crate::{Failed, Sink};
 use std::io::{ErrorKind, Write};
@@ -12,7 +12,9 @@ pub struct StreamSink<W: Write> {
 }
 
 impl<W: Write> StreamSink<W> {
-    pub fn new(writer: W) -> StreamSink<W> {
+    pub fn new(writer: W) -> StreamSink<W>
+        ensures { ⟦<StreamSink<W> as Sink>⟧.faults result ≡ 0 }
+    {
         StreamSink { writer, faults: 0 }
     }
 }
