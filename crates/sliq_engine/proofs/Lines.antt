@@ -1,5 +1,5 @@
 -- The lines of the gates of a plain text, read from the front.
-use Rattle.std.proofs.Common.{◌≡◌, ◌≤◌, ◌<◌, ◌+◌, ◌∷◌, [], ◌++◌, ℕ, List, length, codes, sym, ◌∙◌, ap, append_assoc, refl, arith, flat_map, get_or, drop, lit<, All, subst, length-append}
+use Rattle.std.proofs.Common.{◌≡◌, ◌≤◌, ◌+◌, ◌∷◌, [], ◌++◌, ℕ, List, length, codes, sym, ◌∙◌, ap, append_assoc, refl, arith, flat_map, get_or, drop, All, subst, length-append}
 use Rattle.std.proofs.lemmas.Grind.{flat_map-append}
 use Rattle.std.proofs.lemmas.List.{append-nil}
 use Rattle.std.proofs.lemmas.List.Concat.{flat_map-cons}
@@ -23,9 +23,11 @@ one_line g h r s gn hn e =
     let rest = same_places g.on h.on r s name.1 in
     (ap₂ (λ (k : Kind) (on : List ℕ). let p : Placement = record { kind = k; on = on } in p) name.0 rest.0, rest.1)
 
+-- a blank is something
 some_line : (a b : List ℕ) → a ++ 32 ∷ b ≡ [] → ⊥
 some_line a b e = let size : length a + length (32 ∷ b) ≡ 0 = sym (length-append a (32 ∷ b)) ∙ ap length e in omega (arith, size)
 
+-- the line of a gate is not empty
 no_line : (g : Placement) (r : List ℕ) → gate_line g ++ r ≡ [] → ⊥
 no_line g r e = some_line (name_of g.kind) (places g.on ++ (codes ";\n" ++ r)) (sym (line_parts g r) ∙ e)
 
@@ -54,6 +56,7 @@ lines_more text rest more gs g e f =
     ∙ ap (λ t. flat_map gate_line gs ++ t ++ more) (sym (append-nil (gate_line g)))
     ∙ ap (λ t. t ++ more) (sym (flat_map-append gate_line gs (g ∷ [])))
 
+-- a list that goes on after 100 gates is too long
 too_long : (rest : List ℕ) (gs hs ks : List Placement) → (rest ≡ [] → ⊥) → 100 ≤ length gs → length hs ≤ 100 → hs ≡ gs ++ ks → rest ≡ flat_map gate_line ks → ⊥
 too_long rest gs hs [] some many few e f = some f
 too_long rest gs hs (k ∷ ks) some many few e f =
@@ -65,10 +68,12 @@ pub too_many : (text rest : List ℕ) (gs : List Placement) → AllNamed gs → 
 too_many text rest gs gn many e some hs few hn spelled =
     let go = goes_on gs hs rest gn hn (sym e ∙ spelled) in too_long rest gs hs go.0 some many few go.1 go.2
 
+-- what holds of each gate holds of one in the middle
 middle : (P : Placement → Type 0) (hs gs ks : List Placement) (k : Placement) → All P hs → hs ≡ gs ++ k ∷ ks → P k
 middle P hs [] ks k h e = All-head P k ks (subst (All P) e h)
 middle P hs (g ∷ gs) ks k h e = middle P (gs ++ k ∷ ks) gs ks k (All-tail P g (gs ++ k ∷ ks) (subst (All P) e h)) refl
 
+-- where no gate's line begins the rest, no list goes on
 no_next : (rest : List ℕ) (gs : List Placement) (n : ℕ) (hs ks : List Placement) → (rest ≡ [] → ⊥)
     → ((g : Placement) (r : List ℕ) → IsNamed g.kind × IsOn n g → rest ≡ gate_line g ++ r → ⊥) → AllNamed hs → All (IsOn n) hs → hs ≡ gs ++ ks → rest ≡ flat_map gate_line ks → ⊥
 no_next rest gs n hs [] some none hn on e f = some f
@@ -82,6 +87,7 @@ pub bad_line : (text rest : List ℕ) (gs : List Placement) (n : ℕ) → AllNam
 bad_line text rest gs n gn e some none hs hn on spelled =
     let go = goes_on gs hs rest gn hn (sym e ∙ spelled) in no_next rest gs n hs go.0 some none hn on go.1 go.2
 
+-- no line spells nothing
 no_more : (ks : List Placement) → [] ≡ flat_map gate_line ks → ks ≡ []
 no_more [] e = refl
 no_more (k ∷ ks) e = absurd (no_line k (flat_map gate_line ks) (sym (flat_map-cons gate_line k ks) ∙ sym e))
@@ -92,6 +98,7 @@ same_lines gs hs gn hn e =
     let go = goes_on gs hs [] gn hn (append-nil (flat_map gate_line gs) ∙ e) in
     sym (go.1 ∙ ap (λ ks. gs ++ ks) (no_more go.0 go.2) ∙ append-nil gs)
 
+-- a text spells one circuit
 pub same_circuit : (text : List ℕ) (m n : ℕ) (gs hs : List Placement) → ReadsAs text m gs → ReadsAs text n hs → (m ≡ n) × (gs ≡ hs)
 same_circuit text m n gs hs a b =
     let e : plain_text m gs ≡ plain_text n hs = sym a.spelled ∙ b.spelled in

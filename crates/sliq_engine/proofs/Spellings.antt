@@ -1,9 +1,10 @@
 -- What plain texts begin with: names, places, and lines of gates.
-use Rattle.std.proofs.Common.{◌≡◌, ◌≢◌, ◌==◌, ◌≤◌, ◌<◌, ◌+◌, ◌∷◌, [], ◌++◌, ℕ, List, Option, None, Some, MatchOption, cond, eqb, length, codes, sym, ◌∙◌, ap, append_assoc, refl, arith, get_or, drop, lit<, All, AllPairs, Contains, subst, length-append, Bor}
+use Rattle.std.proofs.Common.{◌≡◌, ◌≢◌, ◌<◌, ◌+◌, ◌∷◌, [], ◌++◌, ℕ, List, Option, None, Some, MatchOption, Bool, true, ◌&&◌, ltb, cond, eqb, length, codes, sym, ◌∙◌, ap, append_assoc, refl, arith, get_or, drop, lit<, All, AllPairs, Contains, subst, Bor}
 use Rattle.std.specs.List.{position_or_len}
 use Rattle.std.specs.Str.{bytes_eq}
+use Rattle.std.proofs.lemmas.Bool.{and_parts, ltb-true}
 use Rattle.std.proofs.lemmas.List.{append_cancel_left}
-use Rattle.std.proofs.lemmas.List.Elements.{All-from_recursion, All-contains}
+use Rattle.std.proofs.lemmas.List.Elements.{All-nil, All-cons, All-contains}
 use Rattle.gate_set.specs.declared.kind.Kind.{Kind}
 use Rattle.gate_set.specs.declared.kind.Kind.TheVariants.{Id, X, Y, Z, H, S, Sdg, T, Tdg, RxP, RxM, RyP, RyM, Cx, Cz, Swap, Ccx, Cswap}
 use Rattle.gate_set.specs.Matrix.{arity_of}
@@ -11,9 +12,11 @@ use Rattle.gate_set.specs.Shape.{Placement, IsOn}
 use Rattle.sliq_engine.specs.Fronts.{IsFront}
 use Rattle.sliq_engine.specs.PlainText.{name_of, IsNamed, place, places, gate_line}
 
+-- different numbers
 below : (a b : ℕ) → a < b → a ≡ b → ⊥
 below a b h e = omega arith
 
+-- no value, where no good one's spelling begins the text
 pub no_front : {V : Type 0} (spelling : V → List ℕ) (Good : V → Type 0) (text : List ℕ) (o : Option (V × Bor (List ℕ))) → o ≡ None
     → ((v : V) (rest : List ℕ) → Good v → text ≡ spelling v ++ rest → ⊥) → IsFront spelling Good text o
 no_front {V} spelling Good text o e h = let P : Option (V × Bor (List ℕ)) → Type 0 = λ o. IsFront spelling Good text o in subst P (sym e) h
@@ -29,6 +32,7 @@ then_front first second text more (Some x) e h = e ∙ ap (λ (t : List ℕ). fi
 abbrev pub named_kinds : List Kind
 named_kinds = Id ∷ X ∷ Y ∷ Z ∷ H ∷ S ∷ Sdg ∷ T ∷ Tdg ∷ Cx ∷ Cz ∷ Swap ∷ Ccx ∷ Cswap ∷ []
 
+-- each kind with a name is among them
 pub is_among : (k : Kind) → IsNamed k → Contains named_kinds k
 unfolding name_of
 is_among Id h = (0, lit< tt, refl)
@@ -50,40 +54,21 @@ is_among Swap h = (11, lit< tt, refl)
 is_among Ccx h = (12, lit< tt, refl)
 is_among Cswap h = (13, lit< tt, refl)
 
-long : (k : Kind) → 0 < length (name_of k) → IsNamed k
-long k h e = below 0 (length (name_of k)) h (sym (ap length e))
+-- whether each of these kinds has a name
+have_names : List Kind → Bool
+have_names [] = true
+have_names (k ∷ ks) = ltb 0 (length (name_of k)) && have_names ks
+
+named_where_tested : (ks : List Kind) → have_names ks ≡ true → All IsNamed ks
+unfolding have_names
+named_where_tested [] h = All-nil IsNamed
+named_where_tested (k ∷ ks) h =
+    let parts = and_parts (ltb 0 (length (name_of k))) (have_names ks) h in
+    All-cons IsNamed k ks (λ e. below 0 (length (name_of k)) (ltb-true 0 _ parts.0) (sym (ap length e))) (named_where_tested ks parts.1)
 
 all_named : All IsNamed named_kinds
-unfolding name_of
-all_named =
-    All-from_recursion IsNamed named_kinds (
-      long Id (lit< tt),
-      (
-        long X (lit< tt),
-        (
-          long Y (lit< tt),
-          (
-            long Z (lit< tt),
-            (
-              long H (lit< tt),
-              (
-                long S (lit< tt),
-                (
-                  long Sdg (lit< tt),
-                  (
-                    long T (lit< tt),
-                    (
-                      long Tdg (lit< tt),
-                      (long Cx (lit< tt), (long Cz (lit< tt), (long Swap (lit< tt), (long Ccx (lit< tt), (long Cswap (lit< tt), tt))))),
-                    ),
-                  ),
-                ),
-              ),
-            ),
-          ),
-        ),
-      ),
-    )
+unfolding name_of have_names
+all_named = named_where_tested named_kinds refl
 
 -- a name of one of these kinds, or no name
 pub named_front : (text : List ℕ) (o : Option (Kind × Bor (List ℕ))) → IsFront (λ k. name_of k ++ codes " ") (Contains named_kinds) text o

@@ -1,3 +1,4 @@
+-- The front that is stripped.
 use Rattle.std.proofs.lemmas.Slice.Eq.{strip_prefix_is}
 use Rattle.std.proofs.lemmas.Bool.Decides.{Decides-eqb}
 use Rattle.sliq_engine.proofs.fronts.after.Goals as goal

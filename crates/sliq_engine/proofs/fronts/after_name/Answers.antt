@@ -1,3 +1,4 @@
+-- A name, and then a blank.
 use Rattle.std.proofs.Common.{◌≡◌, ◌++◌, List, ℕ, codes, ap, ◌∙◌}
 use Rattle.sliq_engine.proofs.Spellings.{then_front}
 use Rattle.sliq_engine.specs.PlainText.{name_of}

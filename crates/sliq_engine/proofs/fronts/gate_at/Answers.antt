@@ -1,3 +1,4 @@
+-- A name and the places after it are a line.
 use Rattle.sliq_engine.proofs.Spellings.{line_front}
 use Rattle.sliq_engine.proofs.fronts.gate_at.Goals as goal
 

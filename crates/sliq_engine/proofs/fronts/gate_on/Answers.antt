@@ -1,4 +1,5 @@
-use Rattle.std.proofs.Common.{◌≡◌, None, sym, ◌∙◌, rules}
+-- Where the places do not fit the kind.
+use Rattle.std.proofs.Common.{◌≡◌, None, rules}
 use Rattle.sliq_engine.proofs.Spellings.{no_two, no_three, on_three}
 use Rattle.sliq_engine.proofs.fronts.gate_on.Goals as goal
 

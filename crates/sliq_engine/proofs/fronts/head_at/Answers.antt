@@ -1,3 +1,4 @@
+-- Where no number of qubits stands.
 use Rattle.std.proofs.Common.{◌≡◌, ◌≤◌, ◌++◌, ◌+◌, ℕ, List, None, codes, sym, ap, ◌∙◌, drop, get_or, rules, arith}
 use Rattle.sliq_engine.specs.PlainText.{place, head_lines}
 use Rattle.sliq_engine.proofs.Spellings.{no_front}

@@ -1,3 +1,4 @@
+-- The names that the text does not begin with.
 use Rattle.std.proofs.Common.{◌≡◌, ◌++◌, ℕ, List, codes}
 use Rattle.std.specs.List.{AllWithin}
 use Rattle.sliq_engine.specs.PlainText.{name_of}

@@ -1,3 +1,4 @@
+-- The kinds tried are those with names.
 use Rattle.sliq_engine.proofs.Spellings.{named_front}
 use Rattle.sliq_engine.proofs.fronts.kind_at.Goals as goal
 

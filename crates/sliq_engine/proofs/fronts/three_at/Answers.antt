@@ -1,3 +1,4 @@
+-- Where no three places stand.
 use Rattle.std.proofs.Common.{◌≡◌, ◌≢◌, ◌<◌, ◌++◌, ℕ, List, None, codes, sym, ap, ◌∙◌, drop, rules}
 use Rattle.sliq_engine.specs.PlainText.{place}
 use Rattle.sliq_engine.proofs.Spellings.{no_front}

@@ -1,4 +1,5 @@
-use Rattle.std.proofs.Common.{◌≡◌, ◌≤◌, ◌++◌, List, All, length, flat_map}
+-- The lines so far.
+use Rattle.std.proofs.Common.{◌≡◌, ◌≤◌, ◌++◌, All, length, flat_map}
 use Rattle.gate_set.specs.Shape.{Placement, IsOn}
 use Rattle.sliq_engine.specs.PlainText.{gate_line, IsNamed}
 use Rattle.sliq_engine.proofs.plain_text.gates_of.Given as goal

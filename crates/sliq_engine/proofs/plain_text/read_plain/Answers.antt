@@ -1,3 +1,4 @@
+-- Where the first lines are not plain.
 use Rattle.std.proofs.Common.{flat_map}
 use Rattle.sliq_engine.specs.PlainText.{gate_line}
 use Rattle.sliq_engine.proofs.plain_text.read_plain.Goals as goal
