@@ -1,0 +1,14 @@
+OPENQASM 2.0;
+qreg q[2];
+h q[0];
+h q[1];
+cz q[0],q[1];
+h q[0];
+h q[1];
+x q[0];
+x q[1];
+cz q[0],q[1];
+x q[0];
+x q[1];
+h q[0];
+h q[1];

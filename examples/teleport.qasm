@@ -1,0 +1,10 @@
+OPENQASM 2.0;
+qreg q[3];
+h q[0];
+t q[0];
+h q[1];
+cx q[1],q[2];
+cx q[0],q[1];
+h q[0];
+cx q[1],q[2];
+cz q[0],q[2];
