@@ -1,9 +1,9 @@
 -- What a tree spells is read as its value, whatever may follow.
-use Rattle.std.proofs.Common.{◌≡◌, ◌∙◌, sym, ap, refl, ◌≤◌, ◌<◌, ℕ, zero, suc, ◌+◌, ◌*◌, List, [], ◌∷◌, ◌++◌, length, Option, Some, None, rules, arith, append_assoc, length-append, subst}
+use Rattle.std.proofs.Common.{◌≡◌, ◌∙◌, sym, ap, refl, ◌≤◌, ◌<◌, ℕ, zero, suc, ◌+◌, ◌*◌, List, [], ◌∷◌, ◌++◌, length, Some, arith, append_assoc, length-append}
 use Rattle.qasm_lex.specs.declared.symbol.Symbol.{Symbol}
-use Rattle.qasm_lex.specs.declared.symbol.Symbol.TheVariants.{Whole, Real, Pi, Function, Plus, Minus, Times, Over, Caret, Open, Close, Other}
+use Rattle.qasm_lex.specs.declared.symbol.Symbol.TheVariants.{Whole, Real, Pi, Function, Plus, Minus, Times, Over, Caret, Open, Close}
 use Rattle.qasm_lex.specs.Expressions.{Tree, whole, real, pi, plus, minus, times, over, opposite, raised, called, group, spelling, rank, Formed, Algebra, eval}
-use Rattle.qasm_lex.specs.Descent.{Goal, expr, terms, term, factors, factor, power, raise, atom, Found, next, close, parse}
+use Rattle.qasm_lex.specs.Descent.{Goal, expr, terms, term, factors, factor, power, raise, atom, next, close, parse}
 
 -- what may follow: nothing that would go on
 abbrev pub NoSum : List Symbol → Type 0

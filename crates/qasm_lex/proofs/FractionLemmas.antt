@@ -1,11 +1,14 @@
 -- Fractions in lowest terms.
-use Rattle.std.proofs.Common.{◌≡◌, ◌∙◌, sym, ap, refl, ◌≤◌, ◌<◌, ℕ, zero, suc, ◌+◌, ◌*◌, ◌/◌, ◌%◌, Bool, true, false, arith, subst, ℤ, pos, negsuc, neg_ℤ, ◌≤ℤ◌, ◌<ℤ◌, ◌+ℤ◌, ◌*ℤ◌, unsigned_abs, int_div, FitsSigned, nat_eq, ◌^◌, ◌-ℤ◌, to_z, of_z}
+use Rattle.std.proofs.Common.{◌≡◌, ◌∙◌, sym, ap, refl, ◌≤◌, ◌<◌, ℕ, zero, suc, ◌*◌, ◌/◌, true, false, arith, subst, ℤ, pos, negsuc, neg_ℤ, ◌≤ℤ◌, ◌<ℤ◌, ◌*ℤ◌, unsigned_abs, int_div, FitsSigned, nat_eq, ◌^◌, ◌-ℤ◌, to_z, of_z}
 use Rattle.std.specs.Int.{w64, w128}
 use Rattle.std.specs.Int.Signed.{lt_z}
 use Rattle.std.proofs.lemmas.Int.{to_z-of_z, fits_signed_from_abs, ints}
-use Rattle.std.proofs.Math.Nat.{mul-pos}
-use Rattle.qasm_lex.specs.Fractions.{ greatest_divisor, lowest, IsReduced, most, is_zero}
-use Rattle.qasm_lex.proofs.Divisors.{greatest_divisor-gcd, greatest_divisor-some, greatest_divisor-lowest, greatest_divisor-swap, greatest_divisor-one, divided_some}
+use Rattle.std.proofs.Math.Nat.{mul-pos, mul_comm, mul_assoc, zero-mul, div-mul_cancel}
+use Rattle.std.proofs.Math.IntN.{pos-*ℤ-pos, negsuc-*ℤ-pos}
+use Rattle.std.specs.Int.{IsGcd}
+use Prim.Native.Nat.{◌∣◌}
+use Rattle.qasm_lex.specs.Fractions.{greatest_divisor, lowest, IsReduced, most}
+use Rattle.qasm_lex.proofs.Divisors.{greatest_divisor-gcd, greatest_divisor-lowest, greatest_divisor-swap, greatest_divisor-one, divided_some}
 
 unsigned_abs-neg : (n : ℕ) → unsigned_abs (neg_ℤ (pos n)) ≡ n
 unsigned_abs-neg zero = refl
@@ -96,3 +99,47 @@ tested_negative x h t = grind (arith, ints)
 
 pub tested_positive : (x : ℤ) → unsigned_abs x ≤ most → nat_eq (unsigned_abs x) 0 ≡ false → lt_z (to_z w64 (of_z w64 x)) (pos 0) ≡ false → pos 1 ≤ℤ x
 tested_positive x h z t = grind (arith, ints)
+
+opposite_times : (k g : ℕ) → neg_ℤ (pos k) *ℤ pos g ≡ neg_ℤ (pos (k * g))
+opposite_times zero g = pos-*ℤ-pos 0 g ∙ ap pos (zero-mul g) ∙ sym (ap (λ n. neg_ℤ (pos n)) (zero-mul g))
+opposite_times (suc k) g = negsuc-*ℤ-pos k g
+
+-- a division that leaves nothing
+exact_div : (z : ℤ) (g : ℕ) → g ∣ unsigned_abs z → int_div z (pos g) *ℤ pos g ≡ z
+exact_div (pos n) g h = pos-*ℤ-pos (n / g) g ∙ ap pos (div-mul_cancel g h)
+exact_div (negsuc n) g h = opposite_times (suc n / g) g ∙ ap (λ k. neg_ℤ (pos k)) (div-mul_cancel g h)
+
+swapped : (m x y : ℕ) → m * (x * y) ≡ m * y * x
+swapped m x y = ap (λ n. m * n) (mul_comm x y) ∙ sym (mul_assoc m y x)
+
+crossed : (a : ℤ) (x y : ℕ) → a *ℤ (pos x *ℤ pos y) ≡ (a *ℤ pos y) *ℤ pos x
+crossed (pos m) x y =
+    ap (λ z. pos m *ℤ z) (pos-*ℤ-pos x y) ∙ pos-*ℤ-pos m (x * y) ∙ ap pos (swapped m x y)
+    ∙ sym (pos-*ℤ-pos (m * y) x) ∙ ap (λ z. z *ℤ pos x) (sym (pos-*ℤ-pos m y))
+crossed (negsuc m) x y =
+    ap (λ z. negsuc m *ℤ z) (pos-*ℤ-pos x y) ∙ negsuc-*ℤ-pos m (x * y) ∙ ap (λ n. neg_ℤ (pos n)) (swapped (suc m) x y)
+    ∙ sym (opposite_times (suc m * y) x) ∙ ap (λ z. z *ℤ pos x) (sym (negsuc-*ℤ-pos m y))
+
+-- lowest terms have the same value
+pub lowest_value : (n d : ℤ) → pos 1 ≤ℤ d → (lowest n d).num *ℤ d ≡ n *ℤ (lowest n d).den
+unfolding lowest
+lowest_value n (pos d) h =
+    let k = greatest_divisor (unsigned_abs n) d in
+    let g = greatest_divisor-gcd (unsigned_abs n) d (positive_abs (pos d) h) in
+    ap (λ z. int_div n (pos k) *ℤ z) (sym (exact_div (pos d) k g.1))
+    ∙ crossed (int_div n (pos k)) (d / k) k
+    ∙ ap (λ z. z *ℤ pos (d / k)) (exact_div n k g.0)
+lowest_value n (negsuc d) h = absurd (omega (arith, ints))
+
+pub lowest_den : (n d : ℤ) → pos 1 ≤ℤ d → pos 1 ≤ℤ (lowest n d).den
+unfolding lowest
+lowest_den n d h = lowest_positive n d h
+
+-- and no common divisor but 1
+pub lowest_gcd : (n d : ℤ) → pos 1 ≤ℤ d → IsGcd (unsigned_abs (lowest n d).num) (unsigned_abs (lowest n d).den) 1
+unfolding lowest
+lowest_gcd n d h =
+    let a = unsigned_abs (int_div n (pos (greatest_divisor (unsigned_abs n) (unsigned_abs d)))) in
+    let b = unsigned_abs (int_div d (pos (greatest_divisor (unsigned_abs n) (unsigned_abs d)))) in
+    let p = positive_abs (int_div d (pos (greatest_divisor (unsigned_abs n) (unsigned_abs d)))) (lowest_positive n d h) in
+    subst (λ g. IsGcd a b g) (lowest_coprime n d h) (greatest_divisor-gcd a b p)

@@ -1,19 +1,18 @@
 -- The piece at the front: what the scan finds begins the bytes, and nothing longer does.
-use Rattle.std.proofs.Common.{◌≡◌, ◌≢◌, ◌∙◌, sym, ap, refl, ◌≤◌, ◌<◌, ◌⊎◌, inl, inr, ℕ, zero, suc, ◌+◌, ◌-◌, Bool, true, false, cond, List, [], ◌∷◌, ◌++◌, length, drop, take, Option, Some, None, rules, arith, add-one, append_assoc, length-append, length-drop, subst}
-use Rattle.std.proofs.Math.Seq.{take-add, drop-append_seam}
+use Rattle.std.proofs.Common.{◌≡◌, ◌∙◌, sym, ap, refl, ◌≤◌, inl, inr, ℕ, suc, ◌+◌, Bool, true, false, cond, List, [], ◌∷◌, ◌++◌, length, drop, take, Option, Some, None, arith, add-one, append_assoc, length-append, subst}
+use Rattle.std.proofs.Math.Seq.{drop-append_seam}
 use Rattle.std.proofs.lemmas.List.{length-take-le, take-append-drop}
 use Rattle.qasm_lex.specs.declared.bytes.Class.{Class}
 use Rattle.qasm_lex.specs.declared.bytes.Class.TheVariants.{Letter, LetterE, Digit, Underscore, Point, Quote, Plus, Minus, Greater, Equals, Slash, LineFeed, Blank as BlankClass, Mark as MarkClass, Other}
-use Rattle.qasm_lex.specs.declared.bytes.Part.{Part}
 use Rattle.qasm_lex.specs.declared.bytes.Part.TheVariants.{Words, Digits, Quoted, Commented}
 use Rattle.qasm_lex.specs.declared.token.TokenKind.TheVariants.{Word, Whole, Real, Text, Arrow, Equal, Mark}
 use Rattle.qasm_lex.specs.declared.pieces.Form.{Form}
 use Rattle.qasm_lex.specs.declared.pieces.Form.TheVariants.{Blank, Comment, Token}
-use Rattle.qasm_lex.specs.Bytes.{class_of, in_part, is_letter, is_mark, is_blank, is_quote, is_greater, is_equals, is_slash}
+use Rattle.qasm_lex.specs.Bytes.{class_of, is_letter, is_mark, is_blank, is_quote, is_greater, is_equals, is_slash}
 use Rattle.qasm_lex.specs.Scan.{run, number, quoted, closed, after_minus, after_equals, after_slash, piece_at, piece_of}
 use Rattle.qasm_lex.specs.Lexemes.{IsRun, IsPointed, IsScaled, Spells, Begins, BeginsNone}
 use Rattle.qasm_lex.proofs.Classes.{digit_is, quote_is, greater_is, equals_is, slash_is}
-use Rattle.qasm_lex.proofs.Runs.{run_is, run_reaches, run_exact, run_within, run_more, run_none}
+use Rattle.qasm_lex.proofs.Runs.{run_is, run_reaches, run_exact, run_within}
 use Rattle.qasm_lex.proofs.Numbers.{Sound, Reaches, reaches_same, number_digit, number_point, number_whole, number_pointed, number_scaled, room, split_at}
 
 word_sound : (b : ℕ) (after : List ℕ) → is_letter (class_of b) ≡ true → Sound (b ∷ after) (Some (Token Word, run Words after + 1))

@@ -1,5 +1,5 @@
 -- Numbers in decimal.
-use Rattle.std.proofs.Common.{◌≡◌, ◌∙◌, sym, ap, refl, ◌≤◌, ◌<◌, ℕ, zero, suc, ◌+◌, ◌-◌, ◌*◌, ◌^◌, Bool, true, false, cond, nat_eq, nat_le, ◌&&◌, ◌||◌, List, [], ◌∷◌, length, arith, subst, Option, Some, None, pos, ℤ, to_z}
+use Rattle.std.proofs.Common.{◌≡◌, ◌∙◌, sym, ap, refl, ◌≤◌, ◌<◌, ℕ, zero, suc, ◌+◌, ◌-◌, ◌*◌, ◌^◌, Bool, true, false, cond, nat_eq, nat_le, ◌||◌, List, [], ◌∷◌, length, arith, subst, Some, None, pos, to_z}
 use Rattle.std.proofs.lemmas.Bool.{and_parts, leb-true}
 use Rattle.std.proofs.lemmas.Int.{to_z_pos}
 use Rattle.std.specs.Int.{w64}
@@ -57,17 +57,17 @@ unfolding class_of
 digit_least b h =
     digit_or (between 48 57 b) b _ refl
     (λ r. let u = passed (nat_eq b 95) Underscore _ refl r in
-          let p = passed (nat_eq b 46) Point _ refl u in
-          let q = passed (nat_eq b 34) Quote _ refl p in
-          let l = passed (nat_eq b 43) Plus _ refl q in
-          let m = passed (nat_eq b 45) Minus _ refl l in
-          let g = passed (nat_eq b 62) Greater _ refl m in
-          let e = passed (nat_eq b 61) Equals _ refl g in
-          let s = passed (nat_eq b 47) Slash _ refl e in
-          let f = passed (nat_eq b 10) LineFeed _ refl s in
-          let k = passed (nat_eq b 32 || (nat_eq b 9 || nat_eq b 13)) Blank _ refl f in
-          let n = passed (nat_eq b 59 || (nat_eq b 44 || (nat_eq b 40 || (nat_eq b 41 || (nat_eq b 91 || (nat_eq b 93 || (nat_eq b 123 || (nat_eq b 125 || (nat_eq b 42 || nat_eq b 94))))))))) Mark Other refl k in
-          no_digit n)
+    let p = passed (nat_eq b 46) Point _ refl u in
+    let q = passed (nat_eq b 34) Quote _ refl p in
+    let l = passed (nat_eq b 43) Plus _ refl q in
+    let m = passed (nat_eq b 45) Minus _ refl l in
+    let g = passed (nat_eq b 62) Greater _ refl m in
+    let e = passed (nat_eq b 61) Equals _ refl g in
+    let s = passed (nat_eq b 47) Slash _ refl e in
+    let f = passed (nat_eq b 10) LineFeed _ refl s in
+    let k = passed (nat_eq b 32 || (nat_eq b 9 || nat_eq b 13)) Blank _ refl f in
+    let n = passed (nat_eq b 59 || (nat_eq b 44 || (nat_eq b 40 || (nat_eq b 41 || (nat_eq b 91 || (nat_eq b 93 || (nat_eq b 123 || (nat_eq b 125 || (nat_eq b 42 || nat_eq b 94))))))))) Mark Other refl k in
+    no_digit n)
     (passed (between 97 122 b || between 65 90 b) Letter _ refl (passed (nat_eq b 101 || nat_eq b 69) LetterE _ refl h))
 
 -- what the code's cast gives

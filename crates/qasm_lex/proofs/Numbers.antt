@@ -1,12 +1,10 @@
 -- Numbers: what the scan finds is spelled so, and nothing longer is.
-use Rattle.std.proofs.Common.{◌≡◌, ◌≢◌, ◌∙◌, sym, ap, refl, ◌≤◌, ◌<◌, ◌⊎◌, inl, inr, ℕ, zero, suc, ◌+◌, Bool, true, false, cond, List, [], ◌∷◌, ◌++◌, length, get_or, drop, take, Option, Some, None, nat_eq, rules, arith, add-one, append_assoc, length-append, length-drop, subst}
+use Rattle.std.proofs.Common.{◌≡◌, ◌≢◌, ◌∙◌, sym, ap, refl, ◌≤◌, ◌<◌, ◌⊎◌, inl, inr, ℕ, suc, ◌+◌, Bool, true, false, cond, List, [], ◌∷◌, ◌++◌, length, drop, take, Option, Some, None, nat_eq, arith, add-one, append_assoc, length-append, length-drop}
 use Rattle.std.proofs.lemmas.List.{length-take-le}
 use Rattle.std.proofs.Math.Seq.{take-add, drop-append_seam}
 use Rattle.std.proofs.Math.Nat.{eq-or-lt_of_le}
-use Rattle.std.proofs.lemmas.Bool.{cases_eq, cases_Bool, eqb-true, eq-eqb}
-use Rattle.qasm_lex.specs.declared.bytes.Class.{Class}
+use Rattle.std.proofs.lemmas.Bool.{cases_eq, eqb-true, eq-eqb}
 use Rattle.qasm_lex.specs.declared.bytes.Class.TheVariants.{Digit, LetterE, Point}
-use Rattle.qasm_lex.specs.declared.bytes.Part.{Part}
 use Rattle.qasm_lex.specs.declared.bytes.Part.TheVariants.{Digits}
 use Rattle.qasm_lex.specs.declared.token.TokenKind.TheVariants.{Whole, Real}
 use Rattle.qasm_lex.specs.declared.pieces.Form.{Form}
@@ -15,7 +13,7 @@ use Rattle.qasm_lex.specs.Bytes.{class_of, in_part, is_sign, is_e, is_point}
 use Rattle.qasm_lex.specs.Scan.{run, sign, exponent, number, at_point, with_point, without_point}
 use Rattle.qasm_lex.specs.Lexemes.{IsRun, IsSign, IsWhole, IsExponent, MayBeExponent, IsPointed, IsScaled, Spells}
 use Rattle.qasm_lex.proofs.Classes.{e_is, digit_is, point_is}
-use Rattle.qasm_lex.proofs.Runs.{run_is, run_reaches, run_exact, run_within, run_more, run_none, Stops}
+use Rattle.qasm_lex.proofs.Runs.{run_is, run_reaches, run_exact, run_within, run_more, Stops}
 
 -- what a scan of the bytes answers is spelled so
 abbrev pub Sound : List ℕ → Option (Form × ℕ) → Type 0

@@ -1,8 +1,7 @@
 -- Runs of bytes.
-use Rattle.std.proofs.Common.{◌≡◌, ◌∙◌, sym, ap, refl, ◌≤◌, ◌<◌, ℕ, zero, suc, ◌+◌, Bool, true, false, cond, List, [], ◌∷◌, ◌++◌, length, get_or, drop, take, rules, arith, add-one}
+use Rattle.std.proofs.Common.{◌≡◌, ◌∙◌, ap, refl, ◌≤◌, ◌<◌, ℕ, zero, suc, ◌+◌, Bool, true, false, cond, List, [], ◌∷◌, ◌++◌, length, get_or, drop, take, arith, add-one}
 use Rattle.std.proofs.Math.Seq.{drop-cons}
 use Rattle.qasm_lex.specs.declared.bytes.Part.{Part}
-use Rattle.qasm_lex.specs.declared.bytes.Class.{Class}
 use Rattle.qasm_lex.specs.Bytes.{class_of, in_part}
 use Rattle.qasm_lex.specs.Scan.{run}
 use Rattle.qasm_lex.specs.Lexemes.{IsRun}

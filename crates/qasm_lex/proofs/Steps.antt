@@ -1,7 +1,7 @@
 -- The descent in equations without a bound on the depth.
 use Rattle.std.proofs.Common.{◌≡◌, ◌∙◌, sym, ap, refl, ◌≤◌, ◌<◌, ℕ, zero, suc, ◌+◌, ◌*◌, List, [], ◌∷◌, length, Option, Some, None, ℤ, arith}
 use Rattle.qasm_lex.specs.declared.symbol.Symbol.{Symbol}
-use Rattle.qasm_lex.specs.declared.symbol.Symbol.TheVariants.{Whole, Real, Pi, Function, Plus, Minus, Times, Over, Caret, Open, Close, Other}
+use Rattle.qasm_lex.specs.declared.symbol.Symbol.TheVariants.{Whole, Real, Pi, Function, Plus, Minus, Times, Over, Caret, Open, Close}
 use Rattle.qasm_lex.specs.Values.{Outcome, values}
 use Rattle.qasm_lex.specs.Descent.{Goal, expr, terms, term, factors, factor, power, raise, atom, Found, next, close, parse, bound, parsed}
 

@@ -1,11 +1,11 @@
 -- The whole of an expression: it is read as the value of its tree, and has one tree.
-use Rattle.std.proofs.Common.{◌≡◌, ◌∙◌, sym, ap, refl, ℕ, ◌+◌, ◌*◌, List, [], ◌∷◌, ◌++◌, length, Option, Some, None, IfSome, arith, subst}
+use Rattle.std.proofs.Common.{◌≡◌, ◌∙◌, sym, ap, refl, ℕ, ◌+◌, ◌*◌, List, [], ◌∷◌, ◌++◌, length, Some, None, IfSome, arith, subst}
 use Rattle.qasm_lex.specs.declared.symbol.Symbol.{Symbol}
 use Rattle.qasm_lex.specs.Expressions.{Tree, whole, real, pi, plus, minus, times, over, opposite, raised, called, group, Formed, Algebra, spelling, eval}
 use Rattle.qasm_lex.specs.Values.{values, Outcome}
 use Rattle.qasm_lex.specs.Descent.{expr, parse, parsed, Found, ended, whole_of}
 use Rattle.qasm_lex.proofs.Complete.{ladder, expr_ends}
-use Rattle.qasm_lex.proofs.Sound.{sound, GoodFound, Spelled}
+use Rattle.qasm_lex.proofs.Sound.{sound, GoodFound}
 
 append_none : (s : List Symbol) → s ++ [] ≡ s
 append_none [] = refl

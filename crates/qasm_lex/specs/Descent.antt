@@ -1,9 +1,12 @@
 -- What the private functions of the descent return. No public clause cites a word of this file.
-use Rattle.std.specs.Prelude.{ℕ, zero, suc, ◌+◌, ◌*◌, length, List, [], ◌∷◌, Option, Some, None}
+use Rattle.std.specs.Prelude.{ℕ, zero, suc, ◌+◌, ◌*◌, length, List, [], ◌∷◌, Option, Some, None, Result, Err}
 use Rattle.qasm_lex.specs.declared.symbol.Symbol.{Symbol}
 use Rattle.qasm_lex.specs.declared.symbol.Symbol.TheVariants.{Whole, Real, Pi, Function, Plus, Minus, Times, Over, Caret, Open, Close}
 use Rattle.qasm_lex.specs.Expressions.{Algebra}
-use Rattle.qasm_lex.specs.Values.{Outcome, values}
+use Rattle.qasm_lex.specs.declared.refusal.AngleRefusal.{AngleRefusal}
+use Rattle.qasm_lex.specs.declared.refusal.AngleRefusal.TheVariants.{Malformed}
+use Rattle.qasm_lex.specs.Fractions.{Ratio}
+use Rattle.qasm_lex.specs.Values.{Outcome, values, multiple_of}
 
 -- what is asked for: a part of the grammar, or the rest of one after what was read
 pub data Goal (X : Type 0) : Type 0 where
@@ -77,3 +80,8 @@ ended (c ∷ s) v = None
 abbrev pub whole_of : Found Outcome → Option Outcome
 whole_of None = None
 whole_of (Some p) = ended p.1 p.0
+
+-- the answer to what was read
+abbrev pub answer_from : Option Outcome → Result Ratio AngleRefusal
+answer_from None = Err Malformed
+answer_from (Some x) = multiple_of x

@@ -1,5 +1,5 @@
 -- Fractions of whole numbers in lowest terms, and the arithmetic on them. A part of more than 2^63 - 1 is too wide.
-use Rattle.std.specs.Prelude.{◌≡◌, ◌≤◌, ◌≤ℤ◌, ℕ, zero, suc, ◌*◌, ◌%◌, Bool, true, false, cond, ◌&&◌, nat_eq, nat_le, Result, Ok, Err, ℤ, pos, negsuc, neg_ℤ, ◌+ℤ◌, ◌*ℤ◌, unsigned_abs, int_div}
+use Rattle.std.specs.Prelude.{◌≡◌, ◌≤◌, ◌≤ℤ◌, ℕ, zero, suc, ◌%◌, Bool, cond, ◌&&◌, nat_eq, nat_le, Result, Ok, Err, ℤ, pos, negsuc, neg_ℤ, ◌+ℤ◌, ◌*ℤ◌, unsigned_abs, int_div}
 use Rattle.qasm_lex.specs.declared.refusal.AngleRefusal.{AngleRefusal}
 use Rattle.qasm_lex.specs.declared.refusal.AngleRefusal.TheVariants.{TooWide}
 

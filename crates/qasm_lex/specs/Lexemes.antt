@@ -1,5 +1,5 @@
 -- How bytes spell the tokens, blanks and comments of OpenQASM 2.0, and how a text is cut into them.
-use Rattle.std.specs.Prelude.{◌≡◌, ◌≢◌, ◌⊎◌, ℕ, ◌+◌, ◌-◌, ◌≤◌, ◌<◌, Bool, true, List, [], ◌∷◌, ◌++◌, length, drop, take, Option, Some, None}
+use Rattle.std.specs.Prelude.{◌≡◌, ◌⊎◌, ℕ, ◌+◌, ◌-◌, ◌≤◌, ◌<◌, Bool, true, List, [], ◌∷◌, ◌++◌, length, drop, take, Option, Some, None}
 use Rattle.std.specs.List.{AllByRecursion, filter_map, slice_range}
 use Rattle.qasm_lex.specs.declared.bytes.Class.{Class}
 use Rattle.qasm_lex.specs.declared.bytes.Class.TheVariants.{Digit, LetterE, Point, Quote, Minus, Greater, Equals, Slash}

@@ -6,3 +6,5 @@ pub mod Expressions
 pub mod Values
 pub mod Descent
 pub mod Symbols
+pub mod Angles
+pub mod Quarters

@@ -6,8 +6,9 @@ ghost use Rattle.qasm_lex.specs.Descent.{parsed, seen, close, expr, term, factor
 
 use crate::refusal::AngleRefusal;
 use crate::symbol::Symbol;
-use crate::value::{Outcome, call, difference, negative, number, pi, product, quotient, sum};
-use crate::value::power as raised;
+use crate::value::{
+    Outcome, call, difference, negative, number, pi, power as raised, product, quotient, sum,
+};
 
 /// The symbols that are left to read.
 #[derive(Drop)]

@@ -3,6 +3,7 @@ ghost use Rattle.std.specs.Prelude.{◌≡◌, ◌≤◌, ◌<◌, ◌^◌, ◌*
 ghost use Rattle.qasm_lex.specs.Fractions.{Ratio, most, greatest_divisor, narrowed, fraction, whole_ratio, is_zero, negative_ratio, reciprocal, ratio_sum, ratio_product};
 
 use crate::divisor::gcd;
+use crate::pi_fraction::PiFraction;
 use crate::refusal::AngleRefusal;
 use std::marker::Model;
 
@@ -151,6 +152,20 @@ impl Fraction {
     pub fn times(self, other: Fraction) -> Result<Fraction, AngleRefusal>
         ensures { result ≡ ratio_product self other }
     {
-        reduced(product(self.num, other.num), denominator(self.den, other.den))
+        reduced(
+            product(self.num, other.num),
+            denominator(self.den, other.den),
+        )
+    }
+
+    /// The fraction as a multiple of π.
+    pub fn of_pi(self) -> PiFraction
+        ensures num { result.num ≡ self.num }
+        ensures den { result.den ≡ self.den }
+    {
+        PiFraction {
+            num: self.num,
+            den: self.den,
+        }
     }
 }

@@ -1,6 +1,9 @@
 //! Laws of the definitions, each the contract of a call that does nothing.
-ghost use Rattle.std.specs.Prelude.{◌≡◌, ◌+◌, ◌∷◌, List, Option, ℕ};
+ghost use Rattle.std.specs.Prelude.{◌≡◌, ◌∷◌, List, Option, ℕ, ℤ, pos, ◌≤ℤ◌, ◌*ℤ◌, unsigned_abs};
+ghost use Rattle.std.specs.Int.{IsGcd};
+ghost use Rattle.qasm_lex.specs.Fractions.{lowest};
 ghost use Rattle.qasm_lex.specs.Lexemes.{AreTokens, Begins};
+ghost use Rattle.qasm_lex.specs.Expressions.{Tree, Formed, spelling};
 ghost use Rattle.qasm_lex.specs.declared.token.Token.{Token};
 ghost use Rattle.qasm_lex.specs.declared.pieces.Form.{Form};
 ghost use Rattle.qasm_lex.specs.declared.pieces.Form.TheVariants.{Comment};
@@ -18,4 +21,17 @@ pub fn tokens_are_unique()
 /// Where a piece of a text could begin, two slashes begin a comment.
 pub fn slashes_begin_a_comment()
     ensures { (more : List ℕ) (form : Form) (n : ℕ) → Begins (47 ∷ 47 ∷ more) form n → form ≡ Comment }
+{}
+
+/// Symbols are those of at most one expression.
+pub fn expressions_are_unambiguous()
+    ensures { (s t : Tree) → Formed s → Formed t → spelling s ≡ spelling t → s ≡ t }
+{}
+
+/// A fraction and its lowest terms have the same value. The lowest terms have a positive denominator and no common
+/// divisor but 1.
+pub fn lowest_terms()
+    ensures value { (n d : ℤ) → pos 1 ≤ℤ d → (lowest n d).num *ℤ d ≡ n *ℤ (lowest n d).den }
+    ensures positive { (n d : ℤ) → pos 1 ≤ℤ d → pos 1 ≤ℤ (lowest n d).den }
+    ensures lowest { (n d : ℤ) → pos 1 ≤ℤ d → IsGcd (unsigned_abs (lowest n d).num) (unsigned_abs (lowest n d).den) 1 }
 {}

@@ -3,26 +3,33 @@
 //! A text is cut into tokens in one pass; a list of tokens is read as an exact fraction of π.
 #![tactic(auto)]
 
+#[cfg(test)]
+mod angle_tests;
+mod angles;
 mod bytes;
 mod descent;
 mod divisor;
 mod fraction;
 mod laws;
 mod number;
+mod pi_fraction;
 mod pieces;
+mod quarters;
 mod refusal;
 mod scanning;
 mod symbol;
-#[cfg(test)]
-mod tests;
 mod token;
+#[cfg(test)]
+mod token_tests;
 mod value;
 
-pub use fraction::Fraction;
-pub use laws::{every_text_has_tokens, slashes_begin_a_comment, tokens_are_unique};
+pub use angles::angle;
+pub use laws::{
+    every_text_has_tokens, expressions_are_unambiguous, lowest_terms, slashes_begin_a_comment,
+    tokens_are_unique,
+};
+pub use pi_fraction::PiFraction;
+pub use quarters::quarter;
 pub use refusal::AngleRefusal;
-pub use descent::value_of;
-pub use value::{Outcome, Value, multiple};
-pub use symbol::Symbol;
 pub use scanning::tokens;
 pub use token::{Token, TokenKind, Tokens};

@@ -1,6 +1,6 @@
 //! Symbols of expressions.
-ghost use Rattle.std.specs.Prelude.{◌≡◌, ◌≤◌, length, map, slice_range};
-ghost use Rattle.qasm_lex.specs.Lexemes.{AreOfText, Spells, IsWhole, lexeme};
+ghost use Rattle.std.specs.Prelude.{◌≡◌, ◌≤◌, length, slice_range};
+ghost use Rattle.qasm_lex.specs.Lexemes.{Spells, lexeme};
 ghost use Rattle.qasm_lex.specs.declared.pieces.Form.TheVariants.{Token as OfKind};
 ghost use Rattle.std.specs.List.{list_any};
 ghost use Rattle.std.specs.Str.{bytes_eq};
@@ -8,7 +8,6 @@ ghost use Rattle.qasm_lex.specs.Symbols.{functions, word_symbol, mark_symbol, sy
 
 use crate::number::decimal;
 use crate::token::{Token, TokenKind};
-use arrayvec::ArrayVec;
 
 /// What a token stands for in an expression.
 #[derive(Clone, Copy, Debug, Default, PartialEq, Eq)]
@@ -71,7 +70,7 @@ fn mark_symbol(mark: u8) -> Symbol
 }
 
 /// What a token of the text stands for.
-fn symbol_of(text: &[u8], token: Token) -> Symbol
+pub fn symbol_of(text: &[u8], token: Token) -> Symbol
     requires within { (token.from ≤ token.to) × (token.to ≤ length text.now) }
     requires spelled { Spells (OfKind token.kind) (slice_range text.now token.from token.to) }
     ensures { result ≡ symbol_of (lexeme text.now token) }

@@ -1,4 +1,4 @@
-use Rattle.std.proofs.Common.{arith, ◌%◌}
+use Rattle.std.proofs.Common.{arith}
 use Rattle.std.proofs.lemmas.Nat.Gcd.{IsGcd-from_zero, IsGcd-from_mod}
 use Rattle.qasm_lex.proofs.divisor.gcd.Goals as goal
 

@@ -1,5 +1,5 @@
-use Rattle.std.proofs.Common.{◌≡◌, ◌∙◌, sym, ap, subst, rules, ◌<◌, ◌≤◌, ◌^◌, pos, unsigned_abs, arith, FitsSigned, to_z, of_z}
-use Rattle.std.specs.Int.{w128, IsGcd}
+use Rattle.std.proofs.Common.{◌≡◌, ◌∙◌, sym, ap, rules, ◌<◌, ◌^◌, pos, unsigned_abs, arith}
+use Rattle.std.specs.Int.{w128}
 use Rattle.std.proofs.lemmas.Int.{to_z_pos, to_z-of_z, ints}
 use Rattle.qasm_lex.specs.Fractions.{greatest_divisor}
 use Rattle.qasm_lex.proofs.Divisors.{greatest_divisor-is, greatest_divisor-some, greatest_divisor-within}

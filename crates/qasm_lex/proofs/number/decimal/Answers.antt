@@ -1,8 +1,8 @@
-use Rattle.std.proofs.Common.{◌≡◌, ◌∙◌, sym, ap, subst, rules, arith, ◌≤◌, ◌<◌, ◌+◌, ◌-◌, ◌*◌, ◌^◌, ◌∷◌, length, Some, None, IfSome, IfNone}
+use Rattle.std.proofs.Common.{◌≡◌, ◌∙◌, sym, ap, subst, rules, ◌<◌, ◌+◌, ◌-◌, ◌*◌, ◌^◌, ◌∷◌, length, None}
 use Rattle.qasm_lex.specs.declared.bytes.Part.TheVariants.{Digits}
 use Rattle.qasm_lex.specs.Fractions.{most}
 use Rattle.qasm_lex.specs.Lexemes.{IsRun}
-use Rattle.qasm_lex.specs.Symbols.{decimal, narrow_number}
+use Rattle.qasm_lex.specs.Symbols.{decimal}
 use Rattle.qasm_lex.proofs.NumberLemmas.{decimal_next, decimal_over, decimal_end, narrow_none, to_z_some, digit_least}
 use Rattle.qasm_lex.proofs.number.decimal.Goals as goal
 

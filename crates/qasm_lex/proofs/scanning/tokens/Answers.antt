@@ -1,7 +1,14 @@
-use Rattle.std.proofs.Common.{◌≡◌, ◌≤◌, ◌<◌, ◌+◌, length, Some, None, refl, arith, sym, drop, subst}
-use Rattle.qasm_lex.specs.Lexemes.{AreTokens, Begins, BeginsNone, Ends}
+use Rattle.std.proofs.Common.{◌+◌, Some, None, refl, arith, sym, drop, subst}
+use Rattle.qasm_lex.specs.Lexemes.{Begins, Ends}
 use Rattle.qasm_lex.proofs.Cuts.{Done, done_ends, tokens_same, done_token, done_gap}
+use Rattle.qasm_lex.proofs.TextTokens.{whole_of_text}
 use Rattle.qasm_lex.proofs.scanning.tokens.Goals as goal
+
+pub returns-in_default-clause-of_text : goal.returns-in_default-clause-of_text
+returns-in_default-clause-of_text c =
+    let ends : Ends c.args.text.now c.loop-place.place (Some c.loop-place.place) = (refl, c.loop-place-test.true, c.in_default.ensures.none) in
+    whole_of_text c.args.text.now c.loop-place.list.items (Some c.loop-place.place)
+    (done_ends c.args.text.now c.loop-place.place c.loop-place.list.items (Some c.loop-place.place) c.loop-place.invariant ends)
 
 pub returns-in_default-clause-only : goal.returns-in_default-clause-only
 returns-in_default-clause-only c list bad a =
@@ -17,6 +24,13 @@ loop-place-preserved-in_ok-push c =
 
 pub loop-place-preserved : goal.loop-place-preserved
 loop-place-preserved c = done_gap c.args.text.now c.loop-place.place c.in-Some.n c.in-Some.form c.loop-place.list.items c.loop-place.invariant c.in-Some.ensures.some c.in_default-form.not-Token
+
+pub returns-clause-of_text : goal.returns-clause-of_text
+returns-clause-of_text c =
+    let h = c.loop-place.invariant.within in
+    let ends : Ends c.args.text.now c.loop-place.place None = omega arith in
+    whole_of_text c.args.text.now c.loop-place.list.items None
+    (done_ends c.args.text.now c.loop-place.place c.loop-place.list.items None c.loop-place.invariant ends)
 
 pub returns-clause-only : goal.returns-clause-only
 returns-clause-only c list bad a =

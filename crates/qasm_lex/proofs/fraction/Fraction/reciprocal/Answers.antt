@@ -1,6 +1,5 @@
-use Rattle.std.proofs.Common.{◌≡◌, ◌∙◌, ap, sym, subst, arith, pos, ◌-ℤ◌, neg_ℤ, to_z, of_z, ◌<ℤ◌, ◌≤ℤ◌}
+use Rattle.std.proofs.Common.{◌∙◌, ap, sym, subst, pos, ◌-ℤ◌, neg_ℤ, to_z, of_z}
 use Rattle.std.specs.Int.{w64}
-use Rattle.std.proofs.lemmas.Int.{to_z-of_z, ints}
 use Rattle.qasm_lex.specs.Fractions.{IsReduced, is_zero}
 use Rattle.qasm_lex.proofs.FractionLemmas.{reciprocal_reduced, negative_reciprocal_reduced, kept_is, negated_is, tested_negative, tested_positive}
 use Rattle.qasm_lex.proofs.fraction.Fraction.reciprocal.Goals as goal

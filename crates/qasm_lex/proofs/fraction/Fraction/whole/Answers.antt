@@ -1,4 +1,4 @@
-use Rattle.std.proofs.Common.{◌≡◌, sym, subst, arith, pos, to_z, of_z}
+use Rattle.std.proofs.Common.{sym, subst, pos}
 use Rattle.std.specs.Int.{w64}
 use Rattle.std.proofs.lemmas.Int.{to_z-of_z}
 use Rattle.qasm_lex.specs.Fractions.{IsReduced}

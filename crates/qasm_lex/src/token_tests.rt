@@ -6,6 +6,9 @@ use TokenKind::{Arrow, Equal, Mark, Real, Text, Whole, Word};
 type Row = (TokenKind, u32, u32);
 
 fn shows(rt: &HostRuntime, text: &[u8], rows: &[Row], bad: Option<u32>) -> bool {
+    if text.len() > 16_777_216 {
+        return false;
+    }
     let Ok(found) = tokens(rt.alloc(), text) else {
         return false;
     };

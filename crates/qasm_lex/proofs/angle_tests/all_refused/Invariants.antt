@@ -1,0 +1,7 @@
+use Rattle.std.proofs.Common.{◌≤◌}
+use Rattle.qasm_lex.specs.Lexemes.{AreOfText}
+use Rattle.qasm_lex.proofs.angle_tests.all_refused.Given as goal
+
+-- the next angle begins here
+abbrev pub invariant-loop-to : goal.invariant-loop-to
+invariant-loop-to l = record { order : l.from ≤ l.to; of_text : AreOfText l.text l.list }
