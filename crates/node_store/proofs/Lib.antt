@@ -1,4 +1,6 @@
+pub mod Climbs
 pub mod Counts
+pub mod Differing
 pub mod Kept
 pub mod Makes
 pub mod Tables

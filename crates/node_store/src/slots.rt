@@ -143,4 +143,21 @@ impl Slots {
         self.tables[var as usize].add(low, high, node);
         node
     }
+
+    /// Slots with the same nodes under the same numbers.
+    pub fn try_copy(&self) -> Result<Slots, OutOfMemory>
+        ensures { IfOk result (λ s. s.diagram ≡ self.now.diagram) }
+    {
+        let mut tables = Vec::new(self.alloc);
+        for table in &self.tables {
+            tables.push(table.try_copy()?)?;
+        }
+        Ok(Slots {
+            alloc: self.alloc,
+            order: self.order,
+            limit: self.limit,
+            nodes: self.nodes.clone()?,
+            tables,
+        })
+    }
 }

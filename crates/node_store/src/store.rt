@@ -170,6 +170,23 @@ impl Store {
         self.add(var, low.0, high.0)
     }
 
+    /// A store of the same nodes under the same numbers, with the same order and limit.
+    pub fn try_copy(&self) -> Result<Store, OutOfMemory>
+        ensures { IfOk result (λ s. s ≡ self.now) }
+    {
+        Ok(Store {
+            slots: self.slots.try_copy()?,
+        })
+    }
+
+    pub(crate) fn order_ref(&self) -> &Order
+        ensures value { result.now ≡ self.now.order }
+        ensures sound { IsSound self.now }
+    {
+        let _ = &self.slots;
+        self.slots.order()
+    }
+
     pub(crate) fn alloc(&self) -> Global
         ensures sound { IsSound self.now }
     {
