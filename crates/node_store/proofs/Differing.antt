@@ -48,12 +48,12 @@ pub differ_fixed : (d : Diagram) (p : List (Option Bool)) (v f g : ℕ) (b : Boo
 differ_fixed d p v f g b sound below lf lg may h =
     let x = h.at in
     record {
-    at = put x v b;
-    agreeing = λ w c is. elim (cases_eq w v) [
-      | inl e ↦ cond-true (eqb w v) b (x w) (eq-eqb w v e) ∙ fits_some (get_or p v None) c b may (ap (λ u. get_or p u None) (sym e) ∙ is)
-      | inr other ↦ cond-false (eqb w v) b (x w) (ne_eqb w v other) ∙ h.agreeing w c is
+      at = put x v b;
+      agreeing = λ w c is. elim (cases_eq w v) [
+        | inl e ↦ cond-true (eqb w v) b (x w) (eq-eqb w v e) ∙ fits_some (get_or p v None) c b may (ap (λ u. get_or p u None) (sym e) ∙ is)
+        | inr other ↦ cond-false (eqb w v) b (x w) (ne_eqb w v other) ∙ h.agreeing w c is
       ];
-    values = λ e. h.values (sym (fixed_value d v f b x sound below lf) ∙ e ∙ fixed_value d v g b x sound below lg);
+      values = λ e. h.values (sym (fixed_value d v f b x sound below lf) ∙ e ∙ fixed_value d v g b x sound below lg);
     }
 
 -- an assignment with the fixed values of p
@@ -66,10 +66,10 @@ value_is o b is = ap value_of is
 apart_constants : (f g : ℕ) → f < 2 → g < 2 → f ≢ g → eqb f 1 ≢ eqb g 1
 apart_constants f g hf hg ne e =
     elim (cases_eq f 1) [
-    | inl a ↦ ne (a ∙ sym (eqb-true g 1 (sym e ∙ eq-eqb f 1 a)))
-    | inr a ↦ elim (cases_eq g 1) [
-      | inl c ↦ a (eqb-true f 1 (e ∙ eq-eqb g 1 c))
-      | inr c ↦ ne (omega arith)
+      | inl a ↦ ne (a ∙ sym (eqb-true g 1 (sym e ∙ eq-eqb f 1 a)))
+      | inr a ↦ elim (cases_eq g 1) [
+        | inl c ↦ a (eqb-true f 1 (e ∙ eq-eqb g 1 c))
+        | inr c ↦ ne (omega arith)
       ]
     ]
 
@@ -82,7 +82,7 @@ differ_constants d p f g sound hf hg ne =
       at = x;
       agreeing = λ v b is. value_is (get_or p v None) b is;
       values = λ e. apart_constants f g hf hg ne
-        (sym (value-small d.slots (length d.order) d.order f sound.diagram hf x) ∙ e ∙ value-small d.slots (length d.order) d.order g sound.diagram hg x);
+          (sym (value-small d.slots (length d.order) d.order f sound.diagram hf x) ∙ e ∙ value-small d.slots (length d.order) d.order g sound.diagram hg x);
     }
 
 -- the first k values of x
@@ -116,7 +116,7 @@ differ_lists d p f g sound len h =
       at = bits_of k x;
       long = length-bits_of k x;
       agreeing = agrees_all p (bits_of k x) (length-bits_of k x ∙ sym len) (λ i lt.
-        fits_when (get_or p i None) (get_or (bits_of k x) i false) (λ c is. bit-bits_of k x i (omega arith) ∙ h.agreeing i c is));
+          fits_when (get_or p i None) (get_or (bits_of k x) i false) (λ c is. bit-bits_of k x i (omega arith) ∙ h.agreeing i c is));
       values = λ e. h.values (sym (value-bits_of d x f sound) ∙ e ∙ value-bits_of d x g sound);
     }
 
@@ -128,10 +128,10 @@ coincide_lists d p f g len all x long agreeing =
 pub pair_put : (d : Diagram) (p : List (Option Bool)) (ks new : List (ℕ × ℕ)) (f g : ℕ) → AllCoincide d p ks → CoincideAt d p f g → ((k : ℕ × ℕ) → list_any (λ j. eqb k.0 j.0 && eqb k.1 j.1) new ≡ cond (eqb f k.0 && eqb g k.1) true (list_any (λ j. eqb k.0 j.0 && eqb k.1 j.1) ks)) → AllCoincide d p new
 pair_put d p ks new f g all same puts a b h =
     elim (cases_Bool (eqb f a && eqb g b)) [
-    | inl e ↦
-      let both = and_parts (eqb f a) (eqb g b) e in
-      rw (sym (eqb-true f a both.0), sym (eqb-true g b both.1)) same
-    | inr e ↦ all a b (sym (puts (a, b) ∙ cond-false (eqb f a && eqb g b) true (is_pair ks a b) e) ∙ h)
+      | inl e ↦
+          let both = and_parts (eqb f a) (eqb g b) e in
+          rw (sym (eqb-true f a both.0), sym (eqb-true g b both.1)) same
+      | inr e ↦ all a b (sym (puts (a, b) ∙ cond-false (eqb f a && eqb g b) true (is_pair ks a b) e) ∙ h)
     ]
 
 -- the two nodes fall where the top variable is fixed

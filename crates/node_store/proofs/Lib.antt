@@ -1,4 +1,5 @@
 pub mod Climbs
+pub mod Copies
 pub mod Counts
 pub mod Differing
 pub mod Kept

@@ -28,11 +28,16 @@ differ_from-requires t c =
     let b = get_or (false ∷ true ∷ []) c.loop-bit.bit-index false in
     let falls = pair_falls d v c.args.f.0 c.args.g.0 b s top.some in
     let less : depth d c.follow-low.result.0 + depth d c.follow-high.result.0 < depth d c.args.f.0 + depth d c.args.g.0 = rw (c.follow-low.ensures, c.follow-high.ensures) falls in
-    let q = c.decreases in
-    (omega (arith, less, q),
-    (rw c.follow-low.ensures (fixed_live d v c.args.f.0 b s top.var top.from_f),
-    (rw c.follow-high.ensures (fixed_live d v c.args.g.0 b s top.var top.from_g),
-    (c.requires.len, c.loop-bit.invariant.same))))
+    let q = c.decreases in (
+      omega (arith, less, q),
+      (
+        rw c.follow-low.ensures (fixed_live d v c.args.f.0 b s top.var top.from_f),
+        (
+          rw c.follow-high.ensures (fixed_live d v c.args.g.0 b s top.var top.from_g),
+          (c.requires.len, c.loop-bit.invariant.same),
+        ),
+      ),
+    )
 
 pub returns-then-branch-clause-yes : goal.returns-then-branch-clause-yes
 returns-then-branch-clause-yes t c = λ _.

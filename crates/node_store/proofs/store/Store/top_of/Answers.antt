@@ -33,5 +33,5 @@ returns-clause-top c =
     let order = c.order_ref-order.ensures.value in
     let len : c.len.result ≡ length d.order = c.len.ensures.value ∙ ap length order in
     let at : c.at.result ≡ get_or d.order (length d.order - t) 0 =
-      c.at.ensures ∙ ap (λ o. get_or o (c.len.result - t) 0) order ∙ ap (λ k. get_or d.order (k - t) 0) len in
+    c.at.ensures ∙ ap (λ o. get_or o (c.len.result - t) 0) order ∙ ap (λ k. get_or d.order (k - t) 0) len in
     rw at (top_is d c.args.f.0 c.args.g.0 c.args.h.0 t c.order_ref-order.ensures.sound c.requires.f c.requires.g c.requires.h is some)
