@@ -10,3 +10,6 @@ mod walk;
 
 pub use node::{FALSE, Node, StoreStop, TRUE};
 pub use store::Store;
+
+#[cfg(test)]
+mod tests;

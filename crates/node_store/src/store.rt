@@ -48,8 +48,20 @@ impl Store {
         ensures limit { IfOk result (λ s. s.limit ≡ limit) }
         ensures sound { IfOk result IsSound }
     {
+        Store::with_order(alloc, &Order::natural(vars), limit)
+    }
+
+    /// A store that holds no node, in a given order.
+    pub fn with_order(alloc: Global, order: &Order, limit: u32) -> Result<Store, OutOfMemory>
+        requires some { 1 ≤ limit }
+        requires limit { limit ≤ 16777216 }
+        ensures empty { IfOk result (λ s. held s ≡ 0) }
+        ensures order { IfOk result (λ s. s.order ≡ order.now) }
+        ensures limit { IfOk result (λ s. s.limit ≡ limit) }
+        ensures sound { IfOk result IsSound }
+    {
         Ok(Store {
-            slots: Slots::new(alloc, vars, limit)?,
+            slots: Slots::new(alloc, order, limit)?,
         })
     }
 
