@@ -1,6 +1,6 @@
 -- Bit lists of which some bits are left open.
 use Rattle.std.proofs.Common.{◌≡◌, ◌⊎◌, inl, inr, ℕ, zero, suc, ◌+◌, ◌<◌, ◌≤◌, Bool, true, false, cond, ◌&&◌, List, [], ◌∷◌, map, length, Option, None, Some, is_some, refl, sym, ◌∙◌, ap, arith, set, get_or, replicate}
-use Rattle.std.proofs.lemmas.Bool.{cases_Bool}
+use Rattle.std.proofs.lemmas.Bool.{cases_Bool, and_parts}
 use mathlib.Core.Bool.{beq}
 
 -- whether the value is free, or fixed to b
@@ -93,3 +93,21 @@ agrees_not (v ∷ p) (b ∷ x) (suc i) len lt e =
       | inl t ↦ ap (λ c. c && agrees p x) t ∙ agrees_not p x i (omega arith) (omega arith) e
       | inr f ↦ ap (λ c. c && agrees p x) f
     ]
+
+fits_fixed : (a b : Bool) → beq a b ≡ true → a ≡ b
+fits_fixed true true e = refl
+fits_fixed false false e = refl
+fits_fixed true false e = cc
+fits_fixed false true e = cc
+
+-- a fixed value that fits b is b
+pub fits_some : (v : Option Bool) (a b : Bool) → fits v b ≡ true → v ≡ Some a → b ≡ a
+fits_some None a b f e = cc
+fits_some (Some c) a b f e = let same : c ≡ a = cc in sym (fits_fixed c b f) ∙ same
+
+-- a list that agrees has each fixed value
+pub agrees_at : (p : List (Option Bool)) (x : List Bool) (i : ℕ) (a : Bool) → length x ≡ length p → agrees p x ≡ true → get_or p i None ≡ Some a → get_or x i false ≡ a
+agrees_at [] x i a len all is = cc
+agrees_at (v ∷ p) [] i a len all is = absurd (omega arith)
+agrees_at (v ∷ p) (b ∷ x) zero a len all is = fits_some v a b (and_parts (fits v b) (agrees p x) all).0 is
+agrees_at (v ∷ p) (b ∷ x) (suc i) a len all is = agrees_at p x i a (omega arith) (and_parts (fits v b) (agrees p x) all).1 is

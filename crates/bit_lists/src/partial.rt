@@ -29,16 +29,6 @@ impl Model for Partial {
     ghost inverse_ok = { λ a h. λ i. record { fixed = (kept_inverse a.fixed a.values h).0 i; values = (kept_inverse a.fixed a.values h).1 i } };
 }
 
-/// Whether a value is free, or fixed to `b`.
-fn fits(value: Option<bool>, b: bool) -> bool
-    ensures { result ≡ fits value b }
-{
-    match value {
-        Some(fixed) => fixed == b,
-        None => true,
-    }
-}
-
 impl Partial {
     /// Every value is free.
     pub fn free(len: u8) -> Partial
@@ -78,13 +68,24 @@ impl Partial {
         self.values.set(i, b.unwrap_or(false));
     }
 
+    /// Whether the value at `i` is free, or fixed to `b`.
+    pub fn allows(&self, i: u8, b: bool) -> bool
+        requires { i < length self.now }
+        ensures { result ≡ fits (slice_index_or self.now i None) b }
+    {
+        match self.get(i) {
+            Some(fixed) => fixed == b,
+            None => true,
+        }
+    }
+
     /// Whether each fixed value is the bit of `x`.
     pub fn agrees(&self, x: &Bits) -> bool
         requires { length x.now ≡ length self.now }
         ensures { result ≡ agrees self.now x.now }
     {
         for i in 0..self.len() {
-            if !fits(self.get(i), x.get(i)) {
+            if !self.allows(i, x.get(i)) {
                 return false;
             }
         }

@@ -114,7 +114,7 @@ pub ignores_higher : (d : Diagram) (u v n : ℕ) → IsSound d → has (after d.
 ignores_higher d u v n s below live =
     ignores_above d u n s (live-wider d.slots (from d.order v) (after d.order u) n (λ w h. from_after (length d.order) d.order u v w s.diagram.order below h) live)
 
-put_at : (x : ℕ → Bool) (v : ℕ) (b : Bool) → put x v b v ≡ b
+pub put_at : (x : ℕ → Bool) (v : ℕ) (b : Bool) → put x v b v ≡ b
 put_at x v b = cond-true (eqb v v) b (x v) (eq-eqb v v refl)
 
 -- fixing the variable of a node leaves its child

@@ -44,7 +44,7 @@ fixed_functions s v vs (n ∷ ns) once =
     ∙ ap (λ fs. build (denoted s vs (follow s v false n)) (denoted s vs (follow s v true n)) fs) (fixed_functions s v vs ns once)
 
 -- a walk reads the variables of its list alone
-walk-agree : (s : List (Option Parts)) (vs : List ℕ) (x y : ℕ → Bool) (n : ℕ) → ((v : ℕ) → has vs v ≡ true → x v ≡ y v) → walk s vs x n ≡ walk s vs y n
+pub walk-agree : (s : List (Option Parts)) (vs : List ℕ) (x y : ℕ → Bool) (n : ℕ) → ((v : ℕ) → has vs v ≡ true → x v ≡ y v) → walk s vs x n ≡ walk s vs y n
 unfolding walk
 walk-agree s [] x y n h = refl
 walk-agree s (v ∷ vs) x y n h =

@@ -93,3 +93,11 @@ pub record PutsNode (s t : List (Option Parts)) (n : ℕ) (p : Parts) : Type 0 w
 -- n has the variable v
 abbrev pub HasVariable : Diagram → ℕ → ℕ → Type 0
 HasVariable d v n = (p : Parts) × (parts_of d.slots n ≡ Some p) × (p.var ≡ v)
+
+-- v is the topmost of the variables of three nodes
+pub record IsTop (d : Diagram) (f g h v : ℕ) : Type 0 where
+  pub var : has d.order v ≡ true
+  pub from_f : IsLiveIn d.slots (from d.order v) f
+  pub from_g : IsLiveIn d.slots (from d.order v) g
+  pub from_h : IsLiveIn d.slots (from d.order v) h
+  pub some : HasVariable d v f ⊎ (HasVariable d v g ⊎ HasVariable d v h)

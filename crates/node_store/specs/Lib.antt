@@ -1,3 +1,4 @@
+pub mod Differs
 pub mod Makes
 pub mod Slots
 pub mod Stored

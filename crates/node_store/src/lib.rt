@@ -1,10 +1,15 @@
 //! The store of the nodes of shared ordered decision diagrams, each function at most once.
 #![tactic(auto)]
 
+mod differ;
 mod node;
 mod reach;
 mod slots;
 mod store;
+mod walk;
 
 pub use node::{FALSE, Node, StoreStop, TRUE};
 pub use store::Store;
+
+#[cfg(test)]
+mod tests;

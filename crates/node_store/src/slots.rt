@@ -3,7 +3,6 @@
 //! Here the parts of a node mean nothing yet: children may be any numbers. `Store` adds that the
 //! nodes are those of a diagram.
 ghost use Rattle.std.specs.Prelude.{◌≡◌, ◌≢◌, ◌⊎◌, ℕ, ◌+◌, ◌<◌, ◌≤◌, OnOk, OnErr, IfOk, IfSome, IfNone, Some, None, [], ◌∷◌, true, length};
-ghost use Rattle.std.specs.List.{range_with_len};
 ghost use Rattle.bit_lists.specs.Orders.{has};
 ghost use Rattle.diagram_model.specs.Nodes.{parts_of};
 ghost use Rattle.diagram_model.specs.Stores.{held, IsNew, PutsNode};
@@ -42,22 +41,21 @@ impl Model for Slots {
 }
 
 impl Slots {
-    /// No held node, in the natural order.
-    pub fn new(alloc: Global, vars: u8, limit: u32) -> Result<Slots, OutOfMemory>
-        requires vars { vars ≤ 128 }
+    /// No held node.
+    pub fn new(alloc: Global, order: &Order, limit: u32) -> Result<Slots, OutOfMemory>
         requires limit { limit ≤ 16777216 }
         ensures empty { IfOk result (λ s. s.diagram.slots ≡ None ∷ None ∷ []) }
-        ensures order { IfOk result (λ s. s.diagram.order ≡ range_with_len 0 vars) }
+        ensures order { IfOk result (λ s. s.diagram.order ≡ order.now) }
         ensures limit { IfOk result (λ s. s.diagram.limit ≡ limit) }
         ensures slotted { IfOk result (λ s. IsSlotted s.diagram) }
     {
         let mut tables = Vec::new(alloc);
-        for _ in 0..vars {
+        for _ in 0..order.len() {
             tables.push(NodeTable::new(alloc))?;
         }
         Ok(Slots {
             alloc,
-            order: Order::natural(vars),
+            order: *order,
             limit,
             nodes: Slab::new(alloc),
             tables,
@@ -142,5 +140,22 @@ impl Slots {
         let node = key as u32 + 2;
         self.tables[var as usize].add(low, high, node);
         node
+    }
+
+    /// Slots with the same nodes under the same numbers.
+    pub fn try_copy(&self) -> Result<Slots, OutOfMemory>
+        ensures { IfOk result (λ s. s.diagram ≡ self.now.diagram) }
+    {
+        let mut tables = Vec::new(self.alloc);
+        for table in &self.tables {
+            tables.push(table.try_copy()?)?;
+        }
+        Ok(Slots {
+            alloc: self.alloc,
+            order: self.order,
+            limit: self.limit,
+            nodes: self.nodes.clone()?,
+            tables,
+        })
     }
 }

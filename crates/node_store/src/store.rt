@@ -48,8 +48,20 @@ impl Store {
         ensures limit { IfOk result (λ s. s.limit ≡ limit) }
         ensures sound { IfOk result IsSound }
     {
+        Store::with_order(alloc, &Order::natural(vars), limit)
+    }
+
+    /// A store that holds no node, in a given order.
+    pub fn with_order(alloc: Global, order: &Order, limit: u32) -> Result<Store, OutOfMemory>
+        requires some { 1 ≤ limit }
+        requires limit { limit ≤ 16777216 }
+        ensures empty { IfOk result (λ s. held s ≡ 0) }
+        ensures order { IfOk result (λ s. s.order ≡ order.now) }
+        ensures limit { IfOk result (λ s. s.limit ≡ limit) }
+        ensures sound { IfOk result IsSound }
+    {
         Ok(Store {
-            slots: Slots::new(alloc, vars, limit)?,
+            slots: Slots::new(alloc, order, limit)?,
         })
     }
 
@@ -168,6 +180,23 @@ impl Store {
             return Err(StoreStop::Full { held });
         }
         self.add(var, low.0, high.0)
+    }
+
+    /// A store of the same nodes under the same numbers, with the same order and limit.
+    pub fn try_copy(&self) -> Result<Store, OutOfMemory>
+        ensures { IfOk result (λ s. s ≡ self.now) }
+    {
+        Ok(Store {
+            slots: self.slots.try_copy()?,
+        })
+    }
+
+    pub(crate) fn order_ref(&self) -> &Order
+        ensures value { result.now ≡ self.now.order }
+        ensures sound { IsSound self.now }
+    {
+        let _ = &self.slots;
+        self.slots.order()
     }
 
     pub(crate) fn alloc(&self) -> Global

@@ -2,10 +2,10 @@ use Rattle.std.proofs.Common.{◌≡◌, ℕ, ◌<◌, ◌≤◌, Bool, true, fa
 use Rattle.bit_lists.specs.Partials.{fits, agrees, agrees_all, agrees_not}
 use Rattle.bit_lists.proofs.partial.Partial.agrees.Goals as goal
 
-pub returns-then-not-fits : goal.returns-then-not-fits
-returns-then-not-fits c =
+pub returns-then-not-allows : goal.returns-then-not-allows
+returns-then-not-allows c =
     let differs : fits (get_or c.args.self.now c.loop-i.i None) (get_or c.args.x.now c.loop-i.i false) ≡ false =
-    rw (← c.get.ensures, ← c.get-in-loop-i.ensures) (sym c.fits.ensures ∙ c.if-not-fits.true) in
+    rw (← c.get.ensures) (sym c.allows.ensures ∙ c.if-not-allows.true) in
     sym (agrees_not c.args.self.now c.args.x.now c.loop-i.i c.requires (omega arith) differs)
 
 pub returns : goal.returns

@@ -1,8 +1,5 @@
 use Rattle.std.proofs.Common.{◌≡◌, ℕ, ◌<◌, ◌≤◌, ◌+◌, [], ◌∷◌, length, arith, sym, ◌∙◌, ap, length-append}
-use Rattle.std.specs.List.{range_with_len}
-use Rattle.std.proofs.lemmas.List.FromFn.{length-range_with_len}
 use Rattle.bit_lists.specs.Orders.{IsOrder}
-use Rattle.bit_lists.specs.KeptOrders.{natural_is_order}
 use Rattle.node_store.proofs.Kept.{empty_push, empty_stored}
 use Rattle.node_store.proofs.slots.Slots.new.Goals as goal
 
@@ -16,9 +13,8 @@ loop-preserved c =
 
 pub invariant_of-result : goal.invariant_of-result
 invariant_of-result c =
-    let order : IsOrder c.natural.result = rw c.natural.ensures (natural_is_order c.args.vars) in
-    let count : length c.loop.tables.items ≡ length c.natural.result =
-    omega (arith, c.loop.invariant.count, ap length c.natural.ensures, length-range_with_len 0 c.args.vars) in
+    let order : IsOrder c.args.order.now = c.len-end.ensures.order in
+    let count : length c.loop.tables.items ≡ length c.args.order.now = omega (arith, c.loop.invariant.count, c.loop-test.false, c.len-end.ensures.value) in
     empty_stored _ c.new-2.ensures.empty order c.requires.limit count c.loop.invariant.empty
 
 pub returns-clause-slotted : goal.returns-clause-slotted
