@@ -1,0 +1,163 @@
+-- What a call keeps, put together from what its parts keep.
+use Rattle.std.proofs.Common.{◌≡◌, ◌≢◌, ◌⊎◌, ℕ, ◌+◌, ◌<◌, ◌≤◌, Bool, true, false, List, Option, Some, None, inl, inr, refl, sym, ◌∙◌, ap, arith}
+use Rattle.std.proofs.lemmas.Bool.{cases_eq}
+use Rattle.diagram_model.specs.Functions.{Function}
+use Rattle.diagram_model.specs.Nodes.{parts_of}
+use Rattle.diagram_model.specs.Stores.{Diagram, IsSound, Extends, AddsOnly}
+use Rattle.diagram_model.proofs.Growing.{extends_trans}
+use Rattle.memos.specs.Memo.{Triple, found}
+use Rattle.node_store.specs.declared.node.StoreStop.{StoreStop}
+use Rattle.diagram_ops.specs.declared.operands.Operands.{Operands}
+use Rattle.diagram_ops.specs.declared.split.Split.{Split}
+use Rattle.diagram_ops.specs.Made.{Property, MakesOnly, StopIs, IsPart, Keeps}
+use Rattle.diagram_ops.specs.Operands.{AreLive, rest, depths, IsSplit}
+use Rattle.diagram_ops.specs.Operations.{Operation, result_of, IsResult, kept_for, AreResults, KeepsHigher}
+use Rattle.diagram_ops.proofs.Results.{Fixes, IsStep, same_store, lives_on, is_result_on, results_on, rest_live, depths_on, depths_fall}
+use Rattle.diagram_ops.proofs.Splits.{three}
+use Rattle.diagram_ops.proofs.Making.{makes_none, makes_then, makes_wider, stop_wider, part_of_whole, whole_made}
+
+-- a call begins: what is known of its operands and their split
+pub record Begins (op : Operation) (d : Diagram) (at : Operands) (s : Split) : Type 0 where
+  pub sound : IsSound d
+  pub live : AreLive d at
+  pub split : IsSplit d at s
+  pub fixes : Fixes op s.var
+
+pub keeps_same : (op : Operation) (at : Operands) (d : Diagram) (es : List (Triple × ℕ)) → IsSound d → AreResults op d es → Keeps op at d d es es
+keeps_same op at d es s all = record {
+  sound = s;
+  extends = same_store d;
+  results = all;
+  higher = λ to live less. refl;
+  made = makes_none d (IsPart op d at);
+}
+
+module _ (op : Operation) (d : Diagram) (at : Operands) (s : Split) (b : Begins op d at s) where
+  pub low_live : AreLive d s.low
+  low_live = rw b.split.low (rest_live d s.var false at b.sound b.split.var b.split.below)
+
+  pub low_falls : depths d s.low < depths d at
+  low_falls = rw b.split.low (depths_fall d s.var false at b.sound b.split.some)
+
+  high_live_d : AreLive d s.high
+  high_live_d = rw b.split.high (rest_live d s.var true at b.sound b.split.var b.split.below)
+
+  high_falls_d : depths d s.high < depths d at
+  high_falls_d = rw b.split.high (depths_fall d s.var true at b.sound b.split.some)
+
+  low_part : (p : Function) → IsPart op d s.low p → IsPart op d at p
+  low_part p = part_of_whole op d d s.var false at s.low b.sound b.sound (same_store d) b.fixes b.split.var b.split.below b.split.low p
+
+  -- the first part alone
+  pub keeps_low : (e : Diagram) (m0 m1 : List (Triple × ℕ)) → Keeps op s.low d e m0 m1 → Keeps op at d e m0 m1
+  keeps_low e m0 m1 k = record {
+    sound = k.sound;
+    extends = k.extends;
+    results = k.results;
+    higher = λ to live less. k.higher to live (omega (arith, less, low_falls));
+    made = makes_wider d e (IsPart op d s.low) (IsPart op d at) low_part k.made;
+  }
+
+  pub stop_low : (e : Diagram) (r : StoreStop) → StopIs e (IsPart op d s.low) r → StopIs e (IsPart op d at) r
+  stop_low e r stop = stop_wider e (IsPart op d s.low) (IsPart op d at) low_part r stop
+
+  -- the second part, in the store that the first one left
+  module _ (e : Diagram) (m0 m1 : List (Triple × ℕ)) (first : Keeps op s.low d e m0 m1) where
+    pub high_live : AreLive e s.high
+    high_live = lives_on d e s.high first.extends high_live_d
+
+    pub high_falls : depths e s.high < depths d at
+    high_falls = omega (arith, depths_on d e s.high b.sound first.sound first.extends high_live_d, high_falls_d)
+
+    high_part : (p : Function) → IsPart op e s.high p → IsPart op d at p
+    high_part p = part_of_whole op d e s.var true at s.high b.sound first.sound first.extends b.fixes b.split.var b.split.below b.split.high p
+
+    -- what is kept for nodes that stand as high as the whole, or higher
+    both_higher : (k : Diagram) (m2 : List (Triple × ℕ)) → Keeps op s.high e k m1 m2 → (to : Operands) → AreLive d to → depths d at ≤ depths d to → kept_for m2 to ≡ kept_for m0 to
+    both_higher k m2 second to live le =
+        let same = depths_on d e to b.sound first.sound first.extends live in
+        second.higher to (lives_on d e to first.extends live) (omega (arith, same, high_falls, le)) ∙ first.higher to live (omega (arith, low_falls, le))
+
+    pub keeps_both : (k : Diagram) (m2 : List (Triple × ℕ)) → Keeps op s.high e k m1 m2 → Keeps op at d k m0 m2
+    keeps_both k m2 second = record {
+      sound = second.sound;
+      extends = extends_trans d e k first.extends second.extends;
+      results = second.results;
+      higher = λ to live less. both_higher k m2 second to live (omega (arith, less));
+      made = makes_then d e k (IsPart op d at) first.sound second.sound second.extends
+          (makes_wider d e (IsPart op d s.low) (IsPart op d at) low_part first.made)
+          (makes_wider e k (IsPart op e s.high) (IsPart op d at) high_part second.made);
+    }
+
+    pub stop_high : (k : Diagram) (r : StoreStop) → StopIs k (IsPart op e s.high) r → StopIs k (IsPart op d at) r
+    stop_high k r stop = stop_wider k (IsPart op e s.high) (IsPart op d at) high_part r stop
+
+    -- nothing is kept for the whole by its parts
+    pub still_none : (k : Diagram) (m2 : List (Triple × ℕ)) → Keeps op s.high e k m1 m2 → kept_for m0 at ≡ None → kept_for m2 at ≡ None
+    still_none k m2 second none = both_higher k m2 second at b.live (omega arith) ∙ none
+
+    -- both parts are made
+    pub both_made : (k : Diagram) (m2 : List (Triple × ℕ)) (low high : ℕ) → Keeps op s.high e k m1 m2 → IsResult op e s.low low → IsResult op k s.high high → IsStep op d k at s low high
+    both_made k m2 low high second of_low of_high = record {
+      sound_d = b.sound;
+      sound_e = second.sound;
+      extends = extends_trans d e k first.extends second.extends;
+      live = b.live;
+      split = b.split;
+      fixes = b.fixes;
+      of_low = is_result_on op e k s.low low first.sound second.sound second.extends of_low;
+      of_high = of_high;
+    }
+
+-- the node of the whole is refused
+pub keeps_refused : (op : Operation) (at : Operands) (d k m : Diagram) (m0 m2 : List (Triple × ℕ)) → Keeps op at d k m0 m2 → m ≡ k → Keeps op at d m m0 m2
+keeps_refused op at d k m m0 m2 kept same = rw same kept
+
+-- the node of the whole is made
+pub keeps_node : (op : Operation) (at : Operands) (d k m : Diagram) (n : ℕ) (m0 m2 : List (Triple × ℕ)) → IsSound d → AreLive d at → Keeps op at d k m0 m2 → IsSound m → Extends k m → IsResult op m at n → AddsOnly k m n → Keeps op at d m m0 m2
+keeps_node op at d k m n m0 m2 sd live kept sm ext is only =
+    let dm = extends_trans d k m kept.extends ext in
+    record {
+      sound = sm;
+      extends = dm;
+      results = results_on op k m m2 kept.sound sm ext kept.results;
+      higher = kept.higher;
+      made = makes_then d k m (IsPart op d at) kept.sound sm ext kept.made (whole_made op d k m at n sd sm dm live is only);
+    }
+
+cases_at : (at to : Operands) → ((to.f ≡ at.f) × (to.g ≡ at.g) × (to.h ≡ at.h)) ⊎ ((to.f ≢ at.f) ⊎ ((to.g ≢ at.g) ⊎ (to.h ≢ at.h)))
+cases_at at to =
+    elim (cases_eq to.f at.f) [
+      | inl p ↦ elim (cases_eq to.g at.g) [
+        | inl q ↦ elim (cases_eq to.h at.h) [ inl r ↦ inl (p, q, r) | inr r ↦ inr (inr (inr r)) ]
+        | inr q ↦ inr (inr (inl q))
+      ]
+      | inr p ↦ inr (inl p)
+    ]
+
+operands_eq : (at to : Operands) → (to.f ≡ at.f) × (to.g ≡ at.g) × (to.h ≡ at.h) → to ≡ at
+operands_eq at to e = ap (λ k. three k to.g to.h) e.0 ∙ ap (λ k. three at.f k to.h) e.1 ∙ ap (λ k. three at.f at.g k) e.2
+
+some_number : (m n : ℕ) → Some m ≡ Some n → m ≡ n
+some_number m n e = cc
+
+-- the result of the whole is kept
+pub keeps_put : (op : Operation) (at : Operands) (d m : Diagram) (n : ℕ) (m0 m2 m3 : List (Triple × ℕ)) → Keeps op at d m m0 m2 → IsResult op m at n → kept_for m3 at ≡ Some n → ((a b c : ℕ) → (a ≢ at.f) ⊎ ((b ≢ at.g) ⊎ (c ≢ at.h)) → found m3 a b c ≡ found m2 a b c) → Keeps op at d m m0 m3
+keeps_put op at d m n m0 m2 m3 kept is here others = record {
+  sound = kept.sound;
+  extends = kept.extends;
+  results = λ to i there.
+      elim (cases_at at to) [
+        | inl e ↦
+            let same : to ≡ at = operands_eq at to e in
+            let one : i ≡ n = some_number i n (sym there ∙ ap (kept_for m3) same ∙ here) in
+            rw (one, same) is
+        | inr ne ↦ kept.results to i (sym (others to.f to.g to.h ne) ∙ there)
+      ];
+  higher = λ to live less.
+      elim (cases_at at to) [
+        | inl e ↦ let same : to ≡ at = operands_eq at to e in absurd (omega (arith, less, ap (depths d) same))
+        | inr ne ↦ others to.f to.g to.h ne ∙ kept.higher to live less
+      ];
+  made = kept.made;
+}

@@ -1,0 +1,6 @@
+use Rattle.std.proofs.Common.{◌≡◌, ◌<◌, length, sym, ◌∙◌, Some}
+use Rattle.diagram_ops.proofs.Variables.{var_within}
+use Rattle.diagram_ops.proofs.split.Seen.new.Goals as goal
+
+pub place_of-requires : goal.place_of-requires
+place_of-requires c = var_within c.args.store.now c.args.n c.in-Some.var c.requires.sound (sym c.in-Some.is ∙ c.top.ensures.var)

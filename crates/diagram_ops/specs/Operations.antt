@@ -1,0 +1,39 @@
+-- An operation on the functions of three nodes, and its results.
+use Rattle.std.specs.Prelude.{◌≡◌, ℕ, ◌<◌, Bool, true, List, Option, Some}
+use Rattle.bit_lists.specs.Orders.{has}
+use Rattle.diagram_model.specs.Functions.{Function, fix}
+use Rattle.diagram_model.specs.Stores.{Diagram, IsLive, IsAbove, function_of}
+use Rattle.memos.specs.Memo.{Triple, found}
+use Rattle.diagram_ops.specs.declared.operands.Operands.{Operands}
+use Rattle.diagram_ops.specs.Operands.{AreLive, AreAbove, depths}
+
+-- a function of three functions
+abbrev pub Operation : Type 0
+Operation = Function → Function → Function → Function
+
+-- the cofactor of the first function: v fixed to b
+unfoldable pub restricted : ℕ → Bool → Function → Function → Function → Function
+restricted v b f g h = fix v b f
+
+-- the operation on the functions of three nodes
+abbrev pub result_of : Operation → Diagram → Operands → Function
+result_of op d at = op (function_of d at.f) (function_of d at.g) (function_of d at.h)
+
+-- n denotes the operation's result, and stands below what the nodes stand below
+pub record IsResult (op : Operation) (d : Diagram) (at : Operands) (n : ℕ) : Type 0 where
+  pub operands : AreLive d at
+  pub live : IsLive d n
+  pub below : (w : ℕ) → has d.order w ≡ true → AreAbove d w at → IsAbove d w n
+  pub denotes : function_of d n ≡ result_of op d at
+
+-- the result that is kept for three nodes
+abbrev pub kept_for : List (Triple × ℕ) → Operands → Option ℕ
+kept_for es at = found es at.f at.g at.h
+
+-- each result that is kept is right
+abbrev pub AreResults : Operation → Diagram → List (Triple × ℕ) → Type 0
+AreResults op d es = (at : Operands) (n : ℕ) → kept_for es at ≡ Some n → IsResult op d at n
+
+-- what is kept for live nodes that stand higher stays
+abbrev pub KeepsHigher : Diagram → Operands → List (Triple × ℕ) → List (Triple × ℕ) → Type 0
+KeepsHigher d at old new = (to : Operands) → AreLive d to → depths d at < depths d to → kept_for new to ≡ kept_for old to
