@@ -275,7 +275,7 @@ natural_is_order n =
     let at : (i : ℕ) → i < n → get_or (range_with_len 0 n) i 0 ≡ i = λ i lt. get_or-range_with_len 0 n i 0 lt ∙ omega arith in
     record {
       once = are_vars (length (range_with_len 0 n)) (range_with_len 0 n)
-        (λ i lt. let h : i < n = omega arith in omega (arith, at i h))
-        (λ i j hi hj e. sym (at i (omega arith)) ∙ e ∙ at j (omega arith));
+          (λ i lt. let h : i < n = omega arith in omega (arith, at i h))
+          (λ i j hi hj e. sym (at i (omega arith)) ∙ e ∙ at j (omega arith));
       all = λ v lt. let h : v < n = omega arith in has_at (range_with_len 0 n) v v lt (at v h);
     }

@@ -64,10 +64,10 @@ unfolding place_in
 length-place [] v h = absurd (false≢true (sym (has-none v) ∙ h))
 length-place (u ∷ us) v h =
     elim (cases_eq u v) [
-    | inl e ↦ omega (arith, ap length (after-head u v us e), cond-true (eqb u v) 0 (suc (place_in us v)) (eq-eqb u v e))
-    | inr ne ↦
-      let rest = length-place us v (has-tail u v us h ne) in
-      omega (arith, rest, ap length (after-tail u v us ne), cond-false (eqb u v) 0 (suc (place_in us v)) (ne_eqb u v ne))
+      | inl e ↦ omega (arith, ap length (after-head u v us e), cond-true (eqb u v) 0 (suc (place_in us v)) (eq-eqb u v e))
+      | inr ne ↦
+          let rest = length-place us v (has-tail u v us h ne) in
+          omega (arith, rest, ap length (after-tail u v us ne), cond-false (eqb u v) 0 (suc (place_in us v)) (ne_eqb u v ne))
     ]
 
 -- a variable stands at its place
@@ -76,8 +76,8 @@ unfolding place_in
 at_place_in [] v h = absurd (false≢true (sym (has-none v) ∙ h))
 at_place_in (u ∷ us) v h =
     elim (cases_eq u v) [
-    | inl e ↦ ap (λ i. get_or (u ∷ us) i 0) (cond-true (eqb u v) 0 (suc (place_in us v)) (eq-eqb u v e)) ∙ e
-    | inr ne ↦ ap (λ i. get_or (u ∷ us) i 0) (cond-false (eqb u v) 0 (suc (place_in us v)) (ne_eqb u v ne)) ∙ at_place_in us v (has-tail u v us h ne)
+      | inl e ↦ ap (λ i. get_or (u ∷ us) i 0) (cond-true (eqb u v) 0 (suc (place_in us v)) (eq-eqb u v e)) ∙ e
+      | inr ne ↦ ap (λ i. get_or (u ∷ us) i 0) (cond-false (eqb u v) 0 (suc (place_in us v)) (ne_eqb u v ne)) ∙ at_place_in us v (has-tail u v us h ne)
     ]
 
 -- a live node of some depth has the variable that stands as high
@@ -111,10 +111,10 @@ max_cases a b c = grind arith
 pub top_is : (d : Diagram) (f g h t : ℕ) → IsSound d → IsLive d f → IsLive d g → IsLive d h → t ≡ max (max (depth d f) (depth d g)) (depth d h) → 0 < t → IsTop d f g h (get_or d.order (length d.order - t) 0)
 top_is d f g h t sound lf lg lh is some =
     elim (max_cases (depth d f) (depth d g) (depth d h)) [
-    | inl a ↦ top_of_one d f g h f _ sound lf lg lh lf (omega (arith, is, a.0)) (omega arith) (omega (arith, a.1)) (omega (arith, a.2)) (ap (λ k. get_or d.order (length d.order - k) 0) (sym (is ∙ a.0))) (λ x. inl x)
-    | inr r ↦ elim r [
-      | inl b ↦ top_of_one d f g h g _ sound lf lg lh lg (omega (arith, is, b.0)) (omega (arith, b.1)) (omega arith) (omega (arith, b.2)) (ap (λ k. get_or d.order (length d.order - k) 0) (sym (is ∙ b.0))) (λ x. inr (inl x))
-      | inr c ↦ top_of_one d f g h h _ sound lf lg lh lh (omega (arith, is, c.0)) (omega (arith, c.1)) (omega (arith, c.2)) (omega arith) (ap (λ k. get_or d.order (length d.order - k) 0) (sym (is ∙ c.0))) (λ x. inr (inr x))
+      | inl a ↦ top_of_one d f g h f _ sound lf lg lh lf (omega (arith, is, a.0)) (omega arith) (omega (arith, a.1)) (omega (arith, a.2)) (ap (λ k. get_or d.order (length d.order - k) 0) (sym (is ∙ a.0))) (λ x. inl x)
+      | inr r ↦ elim r [
+        | inl b ↦ top_of_one d f g h g _ sound lf lg lh lg (omega (arith, is, b.0)) (omega (arith, b.1)) (omega arith) (omega (arith, b.2)) (ap (λ k. get_or d.order (length d.order - k) 0) (sym (is ∙ b.0))) (λ x. inr (inl x))
+        | inr c ↦ top_of_one d f g h h _ sound lf lg lh lh (omega (arith, is, c.0)) (omega (arith, c.1)) (omega (arith, c.2)) (omega arith) (ap (λ k. get_or d.order (length d.order - k) 0) (sym (is ∙ c.0))) (λ x. inr (inr x))
       ]
     ]
 

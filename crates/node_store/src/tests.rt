@@ -51,7 +51,11 @@ fn made<A: Abort, L: Ledger>(
 
 /// The variable at a place of an order of three.
 fn variable(order: &Order, place: u8) -> u8 {
-    if place < order.len() { order.at(place) } else { 0 }
+    if place < order.len() {
+        order.at(place)
+    } else {
+        0
+    }
 }
 
 /// The constant of a table of three variables at values in the order of the places: bit 4 x0 + 2 x1 + x2.
@@ -66,7 +70,11 @@ fn constant(table: u8, order: &Order, values: [bool; 3]) -> Node {
             };
         }
     }
-    if (table as u32).wrapping_shr(index) & 1 == 1 { TRUE } else { FALSE }
+    if (table as u32).wrapping_shr(index) & 1 == 1 {
+        TRUE
+    } else {
+        FALSE
+    }
 }
 
 /// The node of a table of three variables.

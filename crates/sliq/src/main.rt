@@ -3,9 +3,8 @@
 
 use outside::{FileShelf, StreamSink};
 use sliq_engine::{Cause, end, run};
-use std::env;
-use std::io;
 use std::process::ExitCode;
+use std::{env, io};
 
 /// No memory for the words: nothing is printed.
 const OUT_OF_MEMORY: u8 = 7;

@@ -24,8 +24,8 @@ pair_of low high k e =
 other : (low high : ℕ) (s : Slot Children) → ((v : ℕ) → s ≢ holds (low, high) v) → IsOther (is_key low high) s
 other low high s ne k v is =
     elim (cases_Bool (is_key low high k)) [
-    | inl y ↦ absurd (ne v (is ∙ ap (λ q. holds q v) (pair_of low high k y)))
-    | inr n ↦ n
+      | inl y ↦ absurd (ne v (is ∙ ap (λ q. holds q v) (pair_of low high k y)))
+      | inr n ↦ n
     ]
 
 its_key : (low high : ℕ) → is_key low high (low, high) ≡ true
@@ -71,8 +71,8 @@ remove_others xs low high v i here l h ne =
 pub removed_absent : (home : Children → ℕ) (xs : List (Slot Children)) (low high v i : ℕ) → IsProbed home xs → at xs i ≡ holds (low, high) v → IsAbsent (set xs i gone) (low, high)
 removed_absent home xs low high v i p here m w is =
     elim (entry_cases xs i m gone (holds (low, high) w) (held_within xs i (low, high) v here) is) [
-    | inl x ↦ let bad = x.1 in absurd (cc)
-    | inr x ↦ x.0 (p.apart m i (low, high) w v x.1 here)
+      | inl x ↦ let bad = x.1 in absurd (cc)
+      | inr x ↦ x.0 (p.apart m i (low, high) w v x.1 here)
     ]
 
 pub at_slots : (ps : List Place) (i : ℕ) → at (slots_of ps) i ≡ slot_of (get_or ps i Free)
@@ -136,15 +136,15 @@ second ps s low high Full le passed h =
     let behind = passed_drop ps s low high (length (drop s ps)) passed in
     let before = passed_take ps s low high (length (take s ps)) (omega (arith, len)) h in
     λ j from to. elim (cases_lt j s) [
-    | inl lt ↦ before j from (omega (arith, len, lt))
-    | inr ge ↦ behind j ge (omega (arith, rest, to, le))
+      | inl lt ↦ before j from (omega (arith, len, lt))
+      | inr ge ↦ behind j ge (omega (arith, rest, to, le))
     ]
 
 pub passed_more : (ps : List Place) (low high i : ℕ) → ArePassed (slots_of ps) (low, high) 0 i → (at (slots_of ps) i ≢ free) × ((v : ℕ) → at (slots_of ps) i ≢ holds (low, high) v) → ArePassed (slots_of ps) (low, high) 0 (i + 1)
 passed_more ps low high i passed here j from to =
     elim (cases_eq j i) [
-    | inl e ↦ ((λ x. here.0 (ap (λ y. at (slots_of ps) y) (sym e) ∙ x)), (λ v x. here.1 v (ap (λ y. at (slots_of ps) y) (sym e) ∙ x)))
-    | inr ne ↦ passed j from (omega (arith, to, ne))
+      | inl e ↦ ((λ x. here.0 (ap (λ y. at (slots_of ps) y) (sym e) ∙ x)), (λ v x. here.1 v (ap (λ y. at (slots_of ps) y) (sym e) ∙ x)))
+      | inr ne ↦ passed j from (omega (arith, to, ne))
     ]
 
 pub passes_removed : (ps : List Place) (low high i : ℕ) → get_or ps i Free ≡ Removed → (at (slots_of ps) i ≢ free) × ((v : ℕ) → at (slots_of ps) i ≢ holds (low, high) v)
@@ -154,17 +154,18 @@ passes_removed ps low high i is =
 
 pub passes_held : (ps : List Place) (low high i l h n : ℕ) → get_or ps i Free ≡ Held l h n → (l ≢ low) ⊎ (h ≢ high) → (at (slots_of ps) i ≢ free) × ((v : ℕ) → at (slots_of ps) i ≢ holds (low, high) v)
 passes_held ps low high i l h n is ne =
-    let e : at (slots_of ps) i ≡ holds (l, h) n = at_slots ps i ∙ ap slot_of is in
-    ((λ x. absurd (cc)), (λ v x.
-      let k : (l, h) ≡ (low, high) = cc in
-      elim ne [ inl a ↦ a (ap (λ (q : Children). q.0) k) | inr b ↦ b (ap (λ (q : Children). q.1) k) ]))
+    let e : at (slots_of ps) i ≡ holds (l, h) n = at_slots ps i ∙ ap slot_of is in (
+      (λ x. absurd (cc)),
+      (λ v x.
+          let k : (l, h) ≡ (low, high) = cc in
+          elim ne [ inl a ↦ a (ap (λ (q : Children). q.0) k) | inr b ↦ b (ap (λ (q : Children). q.1) k) ]),
+    )
 
 -- a table of places, and one place of it written
 abbrev pub value_of : List Place → ℕ → TableValue
 value_of ps room = record { entries = entries_of (slots_of ps); spare = room }
 
 module _ (ps : List Place) (low high node i : ℕ) (p : IsProbed (home (length ps)) (slots_of ps)) (first : IsFirstFree (slots_of ps) (low, high) (home (length ps) (low, high)) i) where
-
   pub add_probed : IsProbed (home (length (set ps i (Held low high node)))) (slots_of (set ps i (Held low high node)))
   add_probed =
       rw (length-set, map-set)
@@ -187,12 +188,11 @@ module _ (ps : List Place) (low high node i : ℕ) (p : IsProbed (home (length p
       let within : i < length ps = omega (arith, first.within, length-map ps slot_of) in
       record {
         here = find_found (home (length (set ps i (Held low high node)))) (slots_of (set ps i (Held low high node))) low high i node add_probed
-          (at_slots (set ps i (Held low high node)) i ∙ ap slot_of (get_or-set_same ps i (Held low high node) Free within));
+            (at_slots (set ps i (Held low high node)) i ∙ ap slot_of (get_or-set_same ps i (Held low high node) Free within));
         others = λ l h ne. rw map-set (add_others (slots_of ps) low high node i first.is l h ne);
       }
 
 module _ (ps : List Place) (low high node i : ℕ) (p : IsProbed (home (length ps)) (slots_of ps)) (here : at (slots_of ps) i ≡ holds (low, high) node) where
-
   pub remove_probed : IsProbed (home (length (set ps i Removed))) (slots_of (set ps i Removed))
   remove_probed = rw (length-set, map-set) (probed_remove (home (length ps)) (slots_of ps) i p (held_within (slots_of ps) i (low, high) node here))
 
@@ -222,8 +222,8 @@ push_here : {K : Type 0} (e : K → Bool) (es : List (K × ℕ)) (k : K) (v : �
 push_here e [] k v none is = cond-true (e k) (Some v) None is
 push_here e (x ∷ es) k v none is =
     elim (cases_Bool (e x.0)) [
-    | inl y ↦ let bad : Some x.1 ≡ None = sym (cond-true (e x.0) (Some x.1) (lookup e es) y) ∙ none in absurd (cc)
-    | inr n ↦ cond-false (e x.0) (Some x.1) (lookup e (es ++ (k, v) ∷ [])) n ∙ push_here e es k v (sym (cond-false (e x.0) (Some x.1) (lookup e es) n) ∙ none) is
+      | inl y ↦ let bad : Some x.1 ≡ None = sym (cond-true (e x.0) (Some x.1) (lookup e es) y) ∙ none in absurd (cc)
+      | inr n ↦ cond-false (e x.0) (Some x.1) (lookup e (es ++ (k, v) ∷ [])) n ∙ push_here e es k v (sym (cond-false (e x.0) (Some x.1) (lookup e es) n) ∙ none) is
     ]
 
 push_other : {K : Type 0} (e : K → Bool) (es : List (K × ℕ)) (k : K) (v : ℕ) → e k ≡ false → lookup e (es ++ (k, v) ∷ []) ≡ lookup e es
@@ -245,30 +245,30 @@ copy_held t u ps low high node same none puts l h =
     let es = entries_of (slots_of ps) in
     rw (entries_push ps (Held low high node)) (
     elim (cases_Bool (is_key l h (low, high))) [
-    | inl y ↦
-      let k = pair_of l h (low, high) y in
-      let a : low ≡ l = ap (λ (q : Children). q.0) k in
-      let b : high ≡ h = ap (λ (q : Children). q.1) k in
-      let none_here : found_in es l h ≡ None = ap (λ x. found_in es x h) (sym a) ∙ ap (λ x. found_in es low x) (sym b) ∙ sym (same low high) ∙ none in
-      ap (λ x. found u x h) (sym a) ∙ ap (λ x. found u low x) (sym b) ∙ puts.here ∙ sym (push_here (is_key l h) es (low, high) node none_here y)
-    | inr n ↦ puts.others l h (elim (cases_eq l low) [
-      | inl e ↦ elim (cases_eq h high) [
-        | inl e2 ↦ absurd (both_ways (is_key l h (low, high)) n (and_from (eqb l low) (eqb h high) (eq-eqb l low e) (eq-eqb h high e2)))
-        | inr ne ↦ inr ne
+      | inl y ↦
+          let k = pair_of l h (low, high) y in
+          let a : low ≡ l = ap (λ (q : Children). q.0) k in
+          let b : high ≡ h = ap (λ (q : Children). q.1) k in
+          let none_here : found_in es l h ≡ None = ap (λ x. found_in es x h) (sym a) ∙ ap (λ x. found_in es low x) (sym b) ∙ sym (same low high) ∙ none in
+          ap (λ x. found u x h) (sym a) ∙ ap (λ x. found u low x) (sym b) ∙ puts.here ∙ sym (push_here (is_key l h) es (low, high) node none_here y)
+      | inr n ↦ puts.others l h (elim (cases_eq l low) [
+        | inl e ↦ elim (cases_eq h high) [
+          | inl e2 ↦ absurd (both_ways (is_key l h (low, high)) n (and_from (eqb l low) (eqb h high) (eq-eqb l low e) (eq-eqb h high e2)))
+          | inr ne ↦ inr ne
         ]
-      | inr ne ↦ inl ne
+        | inr ne ↦ inl ne
       ]) ∙ same l h ∙ sym (push_other (is_key l h) es (low, high) node n)
     ])
 
 pub first_new : (ps : List Place) (i low high node : ℕ) → AreApart (slots_of ps) → i < length ps → get_or ps i Free ≡ Held low high node → found_in (entries_of (slots_of (take i ps))) low high ≡ None
 first_new ps i low high node apart lt is =
     find_absent (slots_of (take i ps)) low high (λ j v at_j.
-      let len = length-take-le i ps (omega (arith, lt)) in
-      let all = length-map (take i ps) slot_of in
-      let within = held_within (slots_of (take i ps)) j (low, high) v at_j in
-      let below : j < i = omega (arith, len, all, within) in
-      let same = apart j i (low, high) v node (sym (at_take ps i j below) ∙ at_j) (at_slots ps i ∙ ap slot_of is) in
-      omega (arith, below, same))
+    let len = length-take-le i ps (omega (arith, lt)) in
+    let all = length-map (take i ps) slot_of in
+    let within = held_within (slots_of (take i ps)) j (low, high) v at_j in
+    let below : j < i = omega (arith, len, all, within) in
+    let same = apart j i (low, high) v node (sym (at_take ps i j below) ∙ at_j) (at_slots ps i ∙ ap slot_of is) in
+    omega (arith, below, same))
 
 pub at_replicate : (n i : ℕ) → at (slots_of (replicate n Free)) i ≡ free
 at_replicate zero i = refl

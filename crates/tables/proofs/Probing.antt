@@ -95,8 +95,8 @@ held_within (s ∷ xs) (suc i) k v here = let h = held_within xs i k v here in o
 still_used : {K : Type 0} (xs : List (Slot K)) (i m : ℕ) (y : Slot K) → i < length xs → y ≢ free → at xs m ≢ free → at (set xs i y) m ≢ free
 still_used xs i m y lt new old =
     elim (cases_eq m i) [
-    | inl e ↦ λ is. new (sym (get_or-set_same xs i y free lt) ∙ ap (λ n. at (set xs i y) n) (sym e) ∙ is)
-    | inr ne ↦ λ is. old (sym (get_or-set_other xs i m y free ne) ∙ is)
+      | inl e ↦ λ is. new (sym (get_or-set_same xs i y free lt) ∙ ap (λ n. at (set xs i y) n) (sym e) ∙ is)
+      | inr ne ↦ λ is. old (sym (get_or-set_other xs i m y free ne) ∙ is)
     ]
 
 written : {K : Type 0} (xs : List (Slot K)) (i m : ℕ) (y : Slot K) → i < length xs → m ≡ i → at (set xs i y) m ≡ y
@@ -106,8 +106,8 @@ written xs i m y lt e = ap (λ n. at (set xs i y) n) e ∙ get_or-set_same xs i 
 pub entry_cases : {K : Type 0} (xs : List (Slot K)) (i m : ℕ) (y t : Slot K) → i < length xs → at (set xs i y) m ≡ t → ((m ≡ i) × (y ≡ t)) ⊎ ((m ≢ i) × (at xs m ≡ t))
 entry_cases xs i m y t lt is =
     elim (cases_eq m i) [
-    | inl e ↦ inl (e, sym (written xs i m y lt e) ∙ is)
-    | inr ne ↦ inr (ne, sym (get_or-set_other xs i m y free ne) ∙ is)
+      | inl e ↦ inl (e, sym (written xs i m y lt e) ∙ is)
+      | inr ne ↦ inr (ne, sym (get_or-set_other xs i m y free ne) ∙ is)
     ]
 
 same_key : {K : Type 0} (k l : K) (v w : ℕ) → holds k v ≡ holds l w → k ≡ l
@@ -122,38 +122,38 @@ probed_add home xs i k v p first absent =
     let new = used_slot k v in
     record {
       apart = λ a b l u w at_a at_b.
-        elim (entry_cases xs i a (holds k v) (holds l u) lt at_a) [
-        | inl x ↦ elim (entry_cases xs i b (holds k v) (holds l w) lt at_b) [
-          | inl y ↦ x.0 ∙ sym y.0
-          | inr y ↦ absurd (absent b w (y.1 ∙ ap (λ q. holds q w) (sym (same_key k l v u x.1))))
-          ]
-        | inr x ↦ elim (entry_cases xs i b (holds k v) (holds l w) lt at_b) [
-          | inl y ↦ absurd (absent a u (x.1 ∙ ap (λ q. holds q u) (sym (same_key k l v w y.1))))
-          | inr y ↦ p.apart a b l u w x.1 y.1
-          ]
-        ];
+          elim (entry_cases xs i a (holds k v) (holds l u) lt at_a) [
+            | inl x ↦ elim (entry_cases xs i b (holds k v) (holds l w) lt at_b) [
+              | inl y ↦ x.0 ∙ sym y.0
+              | inr y ↦ absurd (absent b w (y.1 ∙ ap (λ q. holds q w) (sym (same_key k l v u x.1))))
+            ]
+            | inr x ↦ elim (entry_cases xs i b (holds k v) (holds l w) lt at_b) [
+              | inl y ↦ absurd (absent a u (x.1 ∙ ap (λ q. holds q u) (sym (same_key k l v w y.1))))
+              | inr y ↦ p.apart a b l u w x.1 y.1
+            ]
+          ];
       up = λ a l u j is from to.
-        elim (cases_eq j i) [
-        | inl e ↦ λ z. new (sym (written xs i j (holds k v) lt e) ∙ z)
-        | inr ne ↦ still_used xs i j (holds k v) lt new (elim (entry_cases xs i a (holds k v) (holds l u) lt is) [
-          | inl x ↦ let h = ap home (same_key k l v u x.1) in (first.up j (omega (arith, h)) (omega (arith, x.0, ne))).0
-          | inr x ↦ p.up a l u j x.1 from to
-          ])
-        ];
+          elim (cases_eq j i) [
+            | inl e ↦ λ z. new (sym (written xs i j (holds k v) lt e) ∙ z)
+            | inr ne ↦ still_used xs i j (holds k v) lt new (elim (entry_cases xs i a (holds k v) (holds l u) lt is) [
+              | inl x ↦ let h = ap home (same_key k l v u x.1) in (first.up j (omega (arith, h)) (omega (arith, x.0, ne))).0
+              | inr x ↦ p.up a l u j x.1 from to
+            ])
+          ];
       high = λ a l u j is wrap from to.
-        let len = length-set xs i (holds k v) in
-        still_used xs i j (holds k v) lt new (elim (entry_cases xs i a (holds k v) (holds l u) lt is) [
-        | inl x ↦ let h = ap home (same_key k l v u x.1) in (first.high (omega (arith, h, x.0)) j (omega (arith, h)) (omega (arith, len))).0
-        | inr x ↦ p.high a l u j x.1 wrap from (omega (arith, len))
-        ]);
+          let len = length-set xs i (holds k v) in
+          still_used xs i j (holds k v) lt new (elim (entry_cases xs i a (holds k v) (holds l u) lt is) [
+            | inl x ↦ let h = ap home (same_key k l v u x.1) in (first.high (omega (arith, h, x.0)) j (omega (arith, h)) (omega (arith, len))).0
+            | inr x ↦ p.high a l u j x.1 wrap from (omega (arith, len))
+          ]);
       low = λ a l u j is wrap to.
-        elim (cases_eq j i) [
-        | inl e ↦ λ z. new (sym (written xs i j (holds k v) lt e) ∙ z)
-        | inr ne ↦ still_used xs i j (holds k v) lt new (elim (entry_cases xs i a (holds k v) (holds l u) lt is) [
-          | inl x ↦ let h = ap home (same_key k l v u x.1) in (first.low (omega (arith, h, x.0)) j (omega arith) (omega (arith, x.0, ne))).0
-          | inr x ↦ p.low a l u j x.1 wrap to
-          ])
-        ];
+          elim (cases_eq j i) [
+            | inl e ↦ λ z. new (sym (written xs i j (holds k v) lt e) ∙ z)
+            | inr ne ↦ still_used xs i j (holds k v) lt new (elim (entry_cases xs i a (holds k v) (holds l u) lt is) [
+              | inl x ↦ let h = ap home (same_key k l v u x.1) in (first.low (omega (arith, h, x.0)) j (omega arith) (omega (arith, x.0, ne))).0
+              | inr x ↦ p.low a l u j x.1 wrap to
+            ])
+          ];
     }
 
 gone_slot : {K : Type 0} (s : Slot K) → s ≡ gone → s ≢ free
@@ -162,10 +162,10 @@ gone_slot s e f = absurd (cc)
 pub probed_remove : {K : Type 0} (home : K → ℕ) (xs : List (Slot K)) (i : ℕ) → IsProbed home xs → i < length xs → IsProbed home (set xs i gone)
 probed_remove {K} home xs i p lt =
     let old = λ (a : ℕ) (l : K) (u : ℕ) (is : at (set xs i gone) a ≡ holds l u).
-      (elim (entry_cases xs i a gone (holds l u) lt is) as (λ z. at xs a ≡ holds l u) [
+    (elim (entry_cases xs i a gone (holds l u) lt is) as (λ z. at xs a ≡ holds l u) [
       | inl x ↦ absurd (let bad = x.1 in cc)
       | inr x ↦ x.1
-      ]) in
+    ]) in
     record {
       apart = λ a b l u w at_a at_b. p.apart a b l u w (old a l u at_a) (old b l w at_b);
       up = λ a l u j is from to. still_used xs i j gone lt (gone_slot gone refl) (p.up a l u j (old a l u is) from to);
@@ -182,18 +182,18 @@ held_used (s ∷ xs) = let p = length_entry s (entries_of xs) in let q = held_on
 pub absent_vacant : {K : Type 0} (home : K → ℕ) (xs : List (Slot K)) (k : K) (i : ℕ) → IsProbed home xs → IsFirstFree xs k (home k) i → IsAbsent xs k
 absent_vacant home xs k i p first m v is =
     elim (cases_lt m (home k)) [
-    | inl under ↦ elim (cases_lt i (home k)) [
-      | inl wrap ↦ elim (cases_lt m i) [
-        | inl lt ↦ (first.low wrap m (omega arith) lt).1 v is
-        | inr ge ↦ p.low m k v i is under ge first.is
+      | inl under ↦ elim (cases_lt i (home k)) [
+        | inl wrap ↦ elim (cases_lt m i) [
+          | inl lt ↦ (first.low wrap m (omega arith) lt).1 v is
+          | inr ge ↦ p.low m k v i is under ge first.is
         ]
-      | inr flat ↦ p.high m k v i is under flat first.within first.is
+        | inr flat ↦ p.high m k v i is under flat first.within first.is
       ]
-    | inr over ↦ elim (cases_lt i (home k)) [
-      | inl wrap ↦ (first.high wrap m over (held_within xs m k v is)).1 v is
-      | inr flat ↦ elim (cases_lt m i) [
-        | inl lt ↦ (first.up m over lt).1 v is
-        | inr ge ↦ p.up m k v i is flat ge first.is
+      | inr over ↦ elim (cases_lt i (home k)) [
+        | inl wrap ↦ (first.high wrap m over (held_within xs m k v is)).1 v is
+        | inr flat ↦ elim (cases_lt m i) [
+          | inl lt ↦ (first.up m over lt).1 v is
+          | inr ge ↦ p.up m k v i is flat ge first.is
         ]
       ]
     ]

@@ -28,7 +28,9 @@ fn home_of(places: usize, low: u32, high: u32) -> usize
     ensures value { result ≡ home places (low, high) }
     ensures within { result ≤ places }
 {
-    let mix = low.wrapping_mul(2654435769).wrapping_add(high.wrapping_mul(2246822519));
+    let mix = low
+        .wrapping_mul(2654435769)
+        .wrapping_add(high.wrapping_mul(2246822519));
     ((mix as u64 * places as u64) >> 32) as usize
 }
 
@@ -40,7 +42,11 @@ fn probe_part(places: &[Place], low: u32, high: u32) -> Probe
         match *place {
             Place::Free => return Probe::Vacant { index },
             Place::Removed => (),
-            Place::Held { low: l, high: h, node } => {
+            Place::Held {
+                low: l,
+                high: h,
+                node,
+            } => {
                 if l == low && h == high {
                     return Probe::Found { index, node };
                 }
@@ -82,7 +88,9 @@ fn search_from(places: &[Place], start: usize, low: u32, high: u32) -> Probe
             index: start + index,
             node,
         },
-        Probe::Vacant { index } => Probe::Vacant { index: start + index },
+        Probe::Vacant { index } => Probe::Vacant {
+            index: start + index,
+        },
     }
 }
 

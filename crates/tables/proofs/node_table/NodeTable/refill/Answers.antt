@@ -34,19 +34,19 @@ loop-place-preserved c =
     let old = c.loop-place.invariant in
     let t = c.loop-place.self in
     elim c.match-place.branch [
-    | in-Held w ↦
-      let low = w.in-Held.low in let high = w.in-Held.high in let node = w.in-Held.node in
-      let none : found t low high ≡ None = old.same low high ∙ first_new ps i low high node c.requires.apart lt w.in-Held.is in
-      let more = count_more ps i (Held low high node) lt w.in-Held.is in
-      rw w.self-is (record {
-        same = copies_held t w.add.new.self ps i low high node lt w.in-Held.is old.same none w.add.ensures.puts;
-        spare = omega (arith, more, old.spare, w.add.ensures.spare);
-        len = omega (arith, more, old.len, w.add.ensures.len);
-      })
-    | in-Removed w ↦
-      let more = count_more ps i Removed lt w.in-Removed.is in
-      rw w.self-is (record { same = copies_removed t ps i lt w.in-Removed.is old.same; spare = omega (arith, more, old.spare); len = omega (arith, more, old.len) })
-    | in-Free w ↦
-      let more = count_more ps i Free lt w.in-Free.is in
-      rw w.self-is (record { same = copies_free t ps i lt w.in-Free.is old.same; spare = omega (arith, more, old.spare); len = omega (arith, more, old.len) })
+      | in-Held w ↦
+          let low = w.in-Held.low in let high = w.in-Held.high in let node = w.in-Held.node in
+          let none : found t low high ≡ None = old.same low high ∙ first_new ps i low high node c.requires.apart lt w.in-Held.is in
+          let more = count_more ps i (Held low high node) lt w.in-Held.is in
+          rw w.self-is (record {
+            same = copies_held t w.add.new.self ps i low high node lt w.in-Held.is old.same none w.add.ensures.puts;
+            spare = omega (arith, more, old.spare, w.add.ensures.spare);
+            len = omega (arith, more, old.len, w.add.ensures.len);
+          })
+      | in-Removed w ↦
+          let more = count_more ps i Removed lt w.in-Removed.is in
+          rw w.self-is (record { same = copies_removed t ps i lt w.in-Removed.is old.same; spare = omega (arith, more, old.spare); len = omega (arith, more, old.len) })
+      | in-Free w ↦
+          let more = count_more ps i Free lt w.in-Free.is in
+          rw w.self-is (record { same = copies_free t ps i lt w.in-Free.is old.same; spare = omega (arith, more, old.spare); len = omega (arith, more, old.len) })
     ]
