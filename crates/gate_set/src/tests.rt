@@ -27,130 +27,76 @@ fn side(kind: Kind) -> u8
     }
 }
 
-/// The entry in this row and column, where the others are zero.
-fn listed(powers: &[(u8, u8, u8)], row: u8, col: u8) -> Entry {
-    for &(at_row, at_col, power) in powers {
-        if at_row == row && at_col == col {
-            return Entry::Omega(power);
-        }
-    }
-    Entry::Zero
-}
-
-/// Each kind, its inverse, its half power, and the powers of ω in its matrix by row and column.
-static TABLE: [(Kind, Kind, u8, &[(u8, u8, u8)]); 18] = [
-    (Kind::Id, Kind::Id, 0, &[(0, 0, 0), (1, 1, 0)]),
-    (Kind::X, Kind::X, 0, &[(0, 1, 0), (1, 0, 0)]),
-    (Kind::Y, Kind::Y, 0, &[(0, 1, 6), (1, 0, 2)]),
-    (Kind::Z, Kind::Z, 0, &[(0, 0, 0), (1, 1, 4)]),
-    (
-        Kind::H,
-        Kind::H,
-        1,
-        &[(0, 0, 0), (0, 1, 0), (1, 0, 0), (1, 1, 4)],
-    ),
-    (Kind::S, Kind::Sdg, 0, &[(0, 0, 0), (1, 1, 2)]),
-    (Kind::Sdg, Kind::S, 0, &[(0, 0, 0), (1, 1, 6)]),
-    (Kind::T, Kind::Tdg, 0, &[(0, 0, 0), (1, 1, 1)]),
-    (Kind::Tdg, Kind::T, 0, &[(0, 0, 0), (1, 1, 7)]),
-    (
-        Kind::RxP,
-        Kind::RxM,
-        1,
-        &[(0, 0, 0), (0, 1, 6), (1, 0, 6), (1, 1, 0)],
-    ),
-    (
-        Kind::RxM,
-        Kind::RxP,
-        1,
-        &[(0, 0, 0), (0, 1, 2), (1, 0, 2), (1, 1, 0)],
-    ),
-    (
-        Kind::RyP,
-        Kind::RyM,
-        1,
-        &[(0, 0, 0), (0, 1, 4), (1, 0, 0), (1, 1, 0)],
-    ),
-    (
-        Kind::RyM,
-        Kind::RyP,
-        1,
-        &[(0, 0, 0), (0, 1, 0), (1, 0, 4), (1, 1, 0)],
-    ),
-    (
-        Kind::Cx,
-        Kind::Cx,
-        0,
-        &[(0, 0, 0), (1, 1, 0), (2, 3, 0), (3, 2, 0)],
-    ),
-    (
-        Kind::Cz,
-        Kind::Cz,
-        0,
-        &[(0, 0, 0), (1, 1, 0), (2, 2, 0), (3, 3, 4)],
-    ),
-    (
-        Kind::Swap,
-        Kind::Swap,
-        0,
-        &[(0, 0, 0), (1, 2, 0), (2, 1, 0), (3, 3, 0)],
-    ),
+/// Each kind, its inverse, its half power, and its matrix by rows: a digit is that power of ω, a dot is zero.
+static TABLE: [(Kind, Kind, u8, &[u8]); 18] = [
+    (Kind::Id, Kind::Id, 0, b"0. .0"),
+    (Kind::X, Kind::X, 0, b".0 0."),
+    (Kind::Y, Kind::Y, 0, b".6 2."),
+    (Kind::Z, Kind::Z, 0, b"0. .4"),
+    (Kind::H, Kind::H, 1, b"00 04"),
+    (Kind::S, Kind::Sdg, 0, b"0. .2"),
+    (Kind::Sdg, Kind::S, 0, b"0. .6"),
+    (Kind::T, Kind::Tdg, 0, b"0. .1"),
+    (Kind::Tdg, Kind::T, 0, b"0. .7"),
+    (Kind::RxP, Kind::RxM, 1, b"06 60"),
+    (Kind::RxM, Kind::RxP, 1, b"02 20"),
+    (Kind::RyP, Kind::RyM, 1, b"04 00"),
+    (Kind::RyM, Kind::RyP, 1, b"00 40"),
+    (Kind::Cx, Kind::Cx, 0, b"0... .0.. ...0 ..0."),
+    (Kind::Cz, Kind::Cz, 0, b"0... .0.. ..0. ...4"),
+    (Kind::Swap, Kind::Swap, 0, b"0... ..0. .0.. ...0"),
     (
         Kind::Ccx,
         Kind::Ccx,
         0,
-        &[
-            (0, 0, 0),
-            (1, 1, 0),
-            (2, 2, 0),
-            (3, 3, 0),
-            (4, 4, 0),
-            (5, 5, 0),
-            (6, 7, 0),
-            (7, 6, 0),
-        ],
+        b"0....... .0...... ..0..... ...0.... ....0... .....0.. .......0 ......0.",
     ),
     (
         Kind::Cswap,
         Kind::Cswap,
         0,
-        &[
-            (0, 0, 0),
-            (1, 1, 0),
-            (2, 2, 0),
-            (3, 3, 0),
-            (4, 4, 0),
-            (5, 6, 0),
-            (6, 5, 0),
-            (7, 7, 0),
-        ],
+        b"0....... .0...... ..0..... ...0.... ....0... ......0. .....0.. .......0",
     ),
 ];
 
+fn entry_of_sign(sign: u8) -> Entry {
+    match sign {
+        b'0'..=b'7' => Entry::Omega(sign - b'0'),
+        _ => Entry::Zero,
+    }
+}
+
 #[test]
 fn every_kind_has_its_matrix(rt: HostRuntime) {
-    for &(kind, inverse, half_power, powers) in &TABLE {
+    for &(kind, inverse, half_power, matrix) in &TABLE {
         let gate = on_first_qubits(rt.alloc(), kind);
         assert_eq!(rt; gate.half_power(), half_power, "the half power of {kind:?}");
+        let mut signs = matrix.iter().filter(|&&sign| sign != b' ');
         for row in 0..side(kind) {
             for col in 0..side(kind) {
+                let expected = signs.next().map(|&sign| entry_of_sign(sign));
                 assert_eq!(rt;
-                    gate.entry(row, col),
-                    listed(powers, row, col),
+                    Some(gate.entry(row, col)),
+                    expected,
                     "{kind:?} at {row}, {col}"
                 );
             }
         }
+        assert_eq!(rt; signs.next(), None, "the size of {kind:?}");
         let undone = gate.inverse();
         assert_eq!(rt; undone.kind, inverse, "the inverse of {kind:?}");
-        assert_eq!(rt; undone.on.len(), kind.arity(), "the qubits of {kind:?}");
+        assert_eq!(rt;
+            undone.on.len(),
+            kind.arity(),
+            "the qubits of the inverse of {kind:?}"
+        );
     }
     matrix_is_unitary();
     inverse_is_adjoint();
 }
 
 #[test]
-fn entries_of_tdg_and_y(rt: HostRuntime) {
+fn entry_of_tdg_and_y(rt: HostRuntime) {
     let tdg = on_first_qubits(rt.alloc(), Kind::Tdg);
     let y = on_first_qubits(rt.alloc(), Kind::Y);
     assert_eq!(rt; tdg.entry(1, 1), Entry::Omega(7));
