@@ -6,3 +6,6 @@ mod key;
 
 pub use cache::Cache;
 pub use key::Key;
+
+#[cfg(test)]
+mod tests;

@@ -1,8 +1,10 @@
 pub mod Canonical
+pub mod Counting
 pub mod Extend
 pub mod Fixing
 pub mod Growing
 pub mod Heights
+pub mod Meanings
 pub mod Prefixes
 pub mod Reached
 pub mod Sizes

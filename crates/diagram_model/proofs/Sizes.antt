@@ -50,7 +50,7 @@ walk-agree s [] x y n h = refl
 walk-agree s (v ∷ vs) x y n h =
     ap (λ t. walk s vs x (follow s v t n)) (h v (has-here v vs v refl)) ∙ walk-agree s vs x y (follow s v (y v) n) (λ w g. h w (has-head v w vs g))
 
-abbrev Among : List (List Bool) → List Bool → Type 0
+abbrev pub Among : List (List Bool) → List Bool → Type 0
 Among [] l = ⊥
 Among (m ∷ ms) l = (m ≡ l) ⊎ Among ms l
 
@@ -73,7 +73,7 @@ take_bits : ℕ → (ℕ → Bool) → List Bool
 take_bits zero x = []
 take_bits (suc k) x = x 0 ∷ take_bits k (λ w. x (suc w))
 
-among_either : (b : Bool) (ls : List (List Bool)) (l : List Bool) → Among ls l → Among (map (λ bs. false ∷ bs) ls ++ map (λ bs. true ∷ bs) ls) (b ∷ l)
+pub among_either : (b : Bool) (ls : List (List Bool)) (l : List Bool) → Among ls l → Among (map (λ bs. false ∷ bs) ls ++ map (λ bs. true ∷ bs) ls) (b ∷ l)
 among_either false ls l h = among_left (map (λ bs. false ∷ bs) ls) (map (λ bs. true ∷ bs) ls) (false ∷ l) (among_map false ls l h)
 among_either true ls l h = among_right (map (λ bs. false ∷ bs) ls) (map (λ bs. true ∷ bs) ls) (true ∷ l) (among_map true ls l h)
 
@@ -88,7 +88,7 @@ bit_take zero x w h = absurd (omega arith)
 bit_take (suc k) x zero h = refl
 bit_take (suc k) x (suc w) h = bit_take k (λ v. x (suc v)) w (omega arith)
 
-same_bool-true : (a b : Bool) → same_bool a b ≡ true → a ≡ b
+pub same_bool-true : (a b : Bool) → same_bool a b ≡ true → a ≡ b
 same_bool-true true b h = sym h
 same_bool-true false true h = h
 same_bool-true false false h = refl
@@ -97,7 +97,7 @@ same_bool-refl : (a : Bool) → same_bool a a ≡ true
 same_bool-refl true = refl
 same_bool-refl false = refl
 
-same_truths-at : (F G : List Bool → Bool) (ls : List (List Bool)) (l : List Bool) → same_truths (map F ls) (map G ls) ≡ true → Among ls l → F l ≡ G l
+pub same_truths-at : (F G : List Bool → Bool) (ls : List (List Bool)) (l : List Bool) → same_truths (map F ls) (map G ls) ≡ true → Among ls l → F l ≡ G l
 unfolding same_truths
 same_truths-at F G [] l same h = absurd h
 same_truths-at F G (m ∷ ms) l same (inl h) =
@@ -105,7 +105,7 @@ same_truths-at F G (m ∷ ms) l same (inl h) =
     ap F (sym h) ∙ e ∙ ap G h
 same_truths-at F G (m ∷ ms) l same (inr h) = same_truths-at F G ms l (and_parts (same_bool (F m) (G m)) (same_truths (map F ms) (map G ms)) same).1 h
 
-same_truths-refl : (ts : List Bool) → same_truths ts ts ≡ true
+pub same_truths-refl : (ts : List Bool) → same_truths ts ts ≡ true
 unfolding same_truths
 same_truths-refl [] = refl
 same_truths-refl (t ∷ ts) = ap (λ b. b && same_truths ts ts) (same_bool-refl t) ∙ same_truths-refl ts

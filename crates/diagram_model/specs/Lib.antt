@@ -1,3 +1,4 @@
+pub mod Bryant
 pub mod Functions
 pub mod Nodes
 pub mod Reach

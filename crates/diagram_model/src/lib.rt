@@ -4,6 +4,11 @@
 //! the constant false, 1 the constant true, and the others are held with a variable and two children.
 #![tactic(auto)]
 
+mod laws;
 mod parts;
 
+pub use laws::{
+    growth_keeps_functions, node_meaning, nodes_are_canonical, size_counts_functions,
+    size_is_bounded,
+};
 pub use parts::Parts;

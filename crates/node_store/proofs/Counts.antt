@@ -99,3 +99,10 @@ size_of_seen d ns ks sound live distinct closed roots reached =
     size_of_reached d.slots (length d.order) d.order (numbers ns) ks sound.diagram (each_live d ns live) distinct
     (λ q h. (reached q h, closed.held q h)) (λ q p h is. in_set d (numbers ns) ks closed roots q h (p, is))
     ∙ ap (size (length d.order) d.order) (sym (denoted_all d ns))
+
+-- three live nodes are live
+pub all_three : (d : Diagram) (f g h : Node) → IsLive d f.0 → IsLive d g.0 → IsLive d h.0 → All (λ (n : Node). IsLive d n.0) (f ∷ g ∷ h ∷ [])
+all_three d f g h lf lg lh zero e lt = lf
+all_three d f g h lf lg lh (suc zero) e lt = lg
+all_three d f g h lf lg lh (suc (suc zero)) e lt = lh
+all_three d f g h lf lg lh (suc (suc (suc k))) e lt = absurd (omega arith)

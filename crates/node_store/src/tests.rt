@@ -5,7 +5,9 @@ ghost use Rattle.diagram_model.specs.Stores.{IsLive, IsAbove};
 
 use crate::{FALSE, Node, Store, StoreStop, TRUE};
 use bit_lists::{Bits, Order, Partial};
+use std::alloc::Global;
 use std::marker::Brand;
+use std::process::Abort;
 use std::sync::ledger::{Blank, Ledger};
 use steps::Steps;
 
@@ -36,8 +38,8 @@ fn is_live(store: &Store, n: Node) -> bool
 }
 
 /// `make`, with its conditions tested.
-fn made<A: Abort, L: Ledger>(
-    rt: &A,
+fn made<L: Ledger>(
+    rt: &impl Abort,
     store: &mut Store,
     var: u8,
     low: Node,
@@ -78,8 +80,8 @@ fn constant(table: u8, order: &Order, values: [bool; 3]) -> Node {
 }
 
 /// The node of a table of three variables.
-fn table_node<A: Abort, L: Ledger>(
-    rt: &A,
+fn table_node<L: Ledger>(
+    rt: &impl Abort,
     store: &mut Store,
     table: u8,
     steps: &mut Steps<L>,
@@ -124,13 +126,13 @@ fn turned() -> Order {
 }
 
 /// All 256 functions of three variables are different nodes, and no further node is needed.
-fn all_functions<A: Abort + Allocates, L: Ledger>(rt: &A, order: &Order, blank: Blank)
+fn all_functions<L: Ledger>(rt: &impl Abort, alloc: Global, order: &Order, blank: Blank)
     requires name { blank.name ≡ L.name }
     requires parts { blank.parts ≡ L.parts }
     requires some { 0 < blank.parts }
 {
     let mut steps = Steps::<L>::new(blank);
-    let Ok(mut store) = Store::with_order(rt.alloc(), order, 254) else {
+    let Ok(mut store) = Store::with_order(alloc, order, 254) else {
         panic!(rt; "no memory");
     };
     let mut seen = [false; 256];
@@ -147,6 +149,143 @@ fn all_functions<A: Abort + Allocates, L: Ledger>(rt: &A, order: &Order, blank: 
 
 #[test]
 fn all_functions_of_three_variables_are_different_nodes(rt: HostRuntime) {
-    all_functions::<HostRuntime, Brand>(&rt, &Order::natural(3), Blank::new(1));
-    all_functions::<HostRuntime, Brand>(&rt, &turned(), Blank::new(1));
+    all_functions::<Brand>(&rt, rt.alloc(), &Order::natural(3), Blank::new(1));
+}
+
+#[test]
+fn all_functions_are_different_nodes_in_another_order(rt: HostRuntime) {
+    all_functions::<Brand>(&rt, rt.alloc(), &turned(), Blank::new(1));
+}
+
+/// Ends the test unless `n` is live.
+fn live(rt: &impl Abort, store: &Store, n: Node)
+    ensures { IsLive store.now n.0 }
+{
+    assert!(rt; is_live(store, n));
+}
+
+/// The size of roots, each tested to be live.
+fn size_of(rt: &impl Abort, store: &Store, f: Node, g: Node, h: Node) -> u32 {
+    live(rt, store, f);
+    live(rt, store, g);
+    live(rt, store, h);
+    match store.size(&[f, g, h]) {
+        Ok(size) => size,
+        Err(_) => panic!(rt; "no memory"),
+    }
+}
+
+/// Parity, majority and the choice of x1 or x2 by x0: sizes alone and together.
+fn sizes<L: Ledger>(rt: &impl Abort, alloc: Global, order: &Order, want: [u32; 4], blank: Blank)
+    requires name { blank.name ≡ L.name }
+    requires parts { blank.parts ≡ L.parts }
+    requires some { 0 < blank.parts }
+{
+    let mut steps = Steps::<L>::new(blank);
+    let Ok(mut store) = Store::with_order(alloc, order, 100) else {
+        panic!(rt; "no memory");
+    };
+    let mut roots = [FALSE; 3];
+    for (i, table) in [150, 232, 202].iter().enumerate() {
+        match table_node(rt, &mut store, *table, &mut steps) {
+            Ok(n) => roots[i] = n,
+            Err(_) => panic!(rt; "no room"),
+        }
+        assert_eq!(rt; size_of(rt, &store, roots[i], roots[i], roots[i]), want[i]);
+    }
+    assert_eq!(rt; size_of(rt, &store, roots[0], roots[1], roots[2]), want[3]);
+}
+
+#[test]
+fn sizes_are_those_counted_by_hand(rt: HostRuntime) {
+    sizes::<Brand>(
+        &rt,
+        rt.alloc(),
+        &Order::natural(3),
+        [5, 4, 3, 10],
+        Blank::new(1),
+    );
+}
+
+#[test]
+fn a_choice_is_larger_where_it_is_asked_last(rt: HostRuntime) {
+    sizes::<Brand>(&rt, rt.alloc(), &turned(), [5, 4, 5, 10], Blank::new(1));
+}
+
+fn at_limit<L: Ledger>(rt: &impl Abort, alloc: Global, blank: Blank)
+    requires name { blank.name ≡ L.name }
+    requires parts { blank.parts ≡ L.parts }
+    requires some { 0 < blank.parts }
+{
+    let mut steps = Steps::<L>::new(blank);
+    let Ok(mut store) = Store::new(alloc, 2, 2) else {
+        panic!(rt; "no memory");
+    };
+    let first = made(rt, &mut store, 0, FALSE, TRUE, &mut steps);
+    let second = made(rt, &mut store, 1, FALSE, TRUE, &mut steps);
+    let (Ok(first), Ok(second)) = (first, second) else {
+        panic!(rt; "two nodes");
+    };
+    assert_ne!(rt; first, second);
+    let third = made(rt, &mut store, 0, FALSE, second, &mut steps);
+    assert_eq!(rt; third, Err(StoreStop::Full { held: 2 }));
+    let again = made(rt, &mut store, 0, FALSE, TRUE, &mut steps);
+    assert_eq!(rt; again, Ok(first));
+}
+
+#[test]
+fn a_full_store_finds_what_it_holds(rt: HostRuntime) {
+    at_limit::<Brand>(&rt, rt.alloc(), Blank::new(1));
+}
+
+/// The conjunction of two variables, asked with and without fixed values, and copied.
+fn conjunction<L: Ledger>(rt: &impl Abort, alloc: Global, blank: Blank)
+    requires name { blank.name ≡ L.name }
+    requires parts { blank.parts ≡ L.parts }
+    requires some { 0 < blank.parts }
+{
+    let mut steps = Steps::<L>::new(blank);
+    let Ok(mut store) = Store::new(alloc, 2, 64) else {
+        panic!(rt; "no memory");
+    };
+    let first = made(rt, &mut store, 0, FALSE, TRUE, &mut steps);
+    let second = made(rt, &mut store, 1, FALSE, TRUE, &mut steps);
+    let (Ok(first), Ok(second)) = (first, second) else {
+        panic!(rt; "two variables");
+    };
+    let Ok(both) = made(rt, &mut store, 0, FALSE, second, &mut steps) else {
+        panic!(rt; "their conjunction");
+    };
+    live(rt, &store, first);
+    live(rt, &store, both);
+    assert_eq!(rt; store.order().len(), 2);
+    let free = Partial::free(2);
+    let mut without = free;
+    without.fix(0, Some(false));
+    let mut with = free;
+    with.fix(0, Some(true));
+    assert_eq!(rt; size_of(rt, &store, both, both, both), 2);
+    assert_eq!(rt; store.any(both, &free), Ok(true));
+    assert_eq!(rt; store.any(both, &without), Ok(false));
+    assert_eq!(rt; store.differ(both, first, &free), Ok(true));
+    assert_eq!(rt; store.differ(both, first, &without), Ok(false));
+    assert_eq!(rt; store.differ(both, first, &with), Ok(true));
+    copied(rt, &store, [first, second, both]);
+}
+
+/// A copy holds the same nodes under the same numbers.
+fn copied(rt: &impl Abort, store: &Store, nodes: [Node; 3]) {
+    let Ok(copy) = store.try_copy() else {
+        panic!(rt; "no memory");
+    };
+    assert_eq!(rt; copy.held(), 3);
+    assert_eq!(rt; copy.limit(), store.limit());
+    for n in nodes {
+        assert_eq!(rt; copy.parts(n.0), store.parts(n.0));
+    }
+}
+
+#[test]
+fn the_conjunction_of_two_variables(rt: HostRuntime) {
+    conjunction::<Brand>(&rt, rt.alloc(), Blank::new(1));
 }
