@@ -1,20 +1,22 @@
 -- What a call keeps, put together from what its parts keep.
-use Rattle.std.proofs.Common.{◌≡◌, ◌≢◌, ◌⊎◌, ℕ, ◌+◌, ◌<◌, ◌≤◌, Bool, true, false, List, Option, Some, None, inl, inr, refl, sym, ◌∙◌, ap, arith}
+use Rattle.std.proofs.Common.{◌≡◌, ◌≢◌, ◌⊎◌, ℕ, ◌<◌, ◌≤◌, true, false, List, Option, Some, None, inl, inr, refl, sym, ◌∙◌, ap, arith}
 use Rattle.std.proofs.lemmas.Bool.{cases_eq}
 use Rattle.diagram_model.specs.Functions.{Function}
-use Rattle.diagram_model.specs.Nodes.{parts_of}
 use Rattle.diagram_model.specs.Stores.{Diagram, IsSound, Extends, AddsOnly}
 use Rattle.diagram_model.proofs.Growing.{extends_trans}
 use Rattle.memos.specs.Memo.{Triple, found}
 use Rattle.node_store.specs.declared.node.StoreStop.{StoreStop}
 use Rattle.diagram_ops.specs.declared.operands.Operands.{Operands}
 use Rattle.diagram_ops.specs.declared.split.Split.{Split}
-use Rattle.diagram_ops.specs.Made.{Property, MakesOnly, StopIs, IsPart, Keeps}
-use Rattle.diagram_ops.specs.Operands.{AreLive, rest, depths, IsSplit}
-use Rattle.diagram_ops.specs.Operations.{Operation, result_of, IsResult, kept_for, AreResults, KeepsHigher}
+use Rattle.diagram_ops.specs.Made.{StopIs, IsPart, Keeps}
+use Rattle.diagram_ops.specs.Operands.{AreLive, depths, IsSplit}
+use Rattle.diagram_ops.specs.Operations.{Operation, IsResult, kept_for, AreResults}
 use Rattle.diagram_ops.proofs.Results.{Fixes, IsStep, same_store, lives_on, is_result_on, results_on, rest_live, depths_on, depths_fall}
 use Rattle.diagram_ops.proofs.Splits.{three}
 use Rattle.diagram_ops.proofs.Making.{makes_none, makes_then, makes_wider, stop_wider, part_of_whole, whole_made}
+
+pub unmet_before : (es : List (Triple × ℕ)) (at : Operands) (o : Option ℕ) → o ≡ kept_for es at → o ≡ None → kept_for es at ≡ None
+unmet_before es at o same none = sym same ∙ none
 
 -- a call begins: what is known of its operands and their split
 pub record Begins (op : Operation) (d : Diagram) (at : Operands) (s : Split) : Type 0 where

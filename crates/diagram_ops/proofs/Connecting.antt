@@ -1,15 +1,14 @@
 -- Connectives as operations.
-use Rattle.std.proofs.Common.{◌≡◌, ◌≢◌, ◌⊎◌, ℕ, ◌<◌, Bool, true, false, inl, inr, refl, sym, ◌∙◌, ap, arith, length}
+use Rattle.std.proofs.Common.{ℕ, inl, inr, refl, ◌∙◌, ap, arith, length}
 use mathlib.Core.Path.{fun_ext}
 use Rattle.diagram_model.specs.Functions.{Function, fix}
 use Rattle.diagram_model.specs.Nodes.{value}
-use Rattle.diagram_model.specs.Stores.{Diagram, IsLive, IsAbove, IsSound, function_of}
-use Rattle.diagram_model.proofs.Prefixes.{Ignores}
+use Rattle.diagram_model.specs.Stores.{Diagram, IsSound, function_of}
 use Rattle.diagram_model.proofs.Values.{value-small}
-use Rattle.diagram_ops.specs.Connectives.{connective, connected}
+use Rattle.diagram_ops.specs.Connectives.{connected}
 use Rattle.diagram_ops.specs.declared.operands.Operands.{Operands}
 use Rattle.diagram_ops.specs.Operands.{AreLive}
-use Rattle.diagram_ops.specs.Operations.{result_of, IsResult}
+use Rattle.diagram_ops.specs.Operations.{IsResult}
 use Rattle.diagram_ops.specs.Short.{IsShort}
 use Rattle.diagram_ops.proofs.Results.{Fixes}
 

@@ -1,7 +1,10 @@
+pub mod Choosing
 pub mod Calls
 pub mod Connecting
 pub mod Making
+pub mod Restricting
 pub mod Results
+pub mod Right
 pub mod Shorts
 pub mod Splits
 pub mod Variables

@@ -1,11 +1,11 @@
 -- Which functions the nodes denote that a call makes, and which one is missing where it stops.
-use Rattle.std.proofs.Common.{◌≡◌, ◌≢◌, ◌⊎◌, ℕ, zero, suc, ◌+◌, ◌<◌, ◌≤◌, Bool, true, false, cond, eqb, List, [], ◌∷◌, ◌++◌, length, Option, Some, None, inl, inr, refl, sym, ◌∙◌, ap, arith}
+use Rattle.std.proofs.Common.{◌≡◌, ◌≢◌, ℕ, zero, suc, ◌<◌, Bool, true, cond, eqb, List, [], ◌∷◌, ◌++◌, length, Option, Some, None, inl, inr, refl, sym, ◌∙◌, ap, arith}
 use Rattle.std.proofs.lemmas.Bool.{cases_Bool, cond-true, cond-false}
 use Rattle.bit_lists.specs.Orders.{has, after}
 use Rattle.diagram_model.specs.declared.parts.Parts.{Parts}
 use Rattle.diagram_model.specs.Functions.{Assignment, Function, fix, IsPrefixOf}
-use Rattle.diagram_model.specs.Nodes.{parts_of, walk, value, IsLiveIn, IsDiagram}
-use Rattle.diagram_model.specs.Stores.{Diagram, held, IsLive, IsAbove, IsSound, Extends, AddsOnly, NoRoom, IsNew, PutsNode, from, function_of}
+use Rattle.diagram_model.specs.Nodes.{parts_of, value, IsLiveIn, IsDiagram}
+use Rattle.diagram_model.specs.Stores.{Diagram, IsLive, IsAbove, IsSound, Extends, AddsOnly, NoRoom, PutsNode, function_of}
 use Rattle.diagram_model.proofs.Canonical.{same_node}
 use Rattle.diagram_model.proofs.Extend.{live-keeps, walk-keeps, keeps_put, diagram_put}
 use Rattle.diagram_model.proofs.Fixing.{ignores_higher}
@@ -18,7 +18,7 @@ use Rattle.node_store.specs.Makes.{StopMeans}
 use Rattle.diagram_ops.specs.declared.operands.Operands.{Operands}
 use Rattle.diagram_ops.specs.declared.split.Split.{Split}
 use Rattle.diagram_ops.specs.Made.{Property, MakesOnly, IsMissing, StopIs, IsPart}
-use Rattle.diagram_ops.specs.Operands.{AreLive, AreFrom, rest, IsSplit}
+use Rattle.diagram_ops.specs.Operands.{AreLive, AreFrom, rest}
 use Rattle.diagram_ops.specs.Operations.{Operation, result_of, IsResult}
 use Rattle.diagram_ops.proofs.Results.{Fixes, IsStep, fix_result, result_on, rest_live, var_on, step_low, step_high, step_choice}
 

@@ -1,21 +1,21 @@
 -- Results of operations, where the store grows and where a node is put over two parts.
-use Rattle.std.proofs.Common.{◌≡◌, ◌≢◌, ◌⊎◌, ℕ, ◌+◌, ◌<◌, ◌≤◌, Bool, true, false, cond, eqb, List, [], ◌∷◌, length, Option, Some, None, inl, inr, refl, sym, ◌∙◌, ap, arith, eq-eqb}
+use Rattle.std.proofs.Common.{◌≡◌, ℕ, ◌<◌, Bool, true, false, cond, eqb, List, length, inl, inr, refl, sym, ◌∙◌, ap, arith, eq-eqb}
 use Rattle.std.proofs.lemmas.Bool.{cases_eq, cases_Bool, cond-true, cond-false, ne_eqb}
 use mathlib.Core.Path.{fun_ext}
 use Rattle.bit_lists.specs.Orders.{has, after}
 use Rattle.diagram_model.specs.Functions.{Assignment, Function, put, fix}
-use Rattle.diagram_model.specs.Nodes.{parts_of, follow, value, IsLiveIn}
-use Rattle.diagram_model.specs.Stores.{Diagram, IsLive, IsAbove, IsSound, Extends, IsChoice, from, depth, HasVariable, function_of}
+use Rattle.diagram_model.specs.Nodes.{follow, IsLiveIn}
+use Rattle.diagram_model.specs.Stores.{Diagram, IsLive, IsAbove, IsSound, Extends, IsChoice, from, function_of}
 use Rattle.diagram_model.proofs.Extend.{value-extends}
 use Rattle.diagram_model.proofs.Fixing.{follow_above, above_live, depth_follow, depth_falls, from_after, var_above, live_from_order, fix_function}
 use Rattle.diagram_model.proofs.Growing.{live_on, above_on, above_back, depth_on, function_on}
 use Rattle.diagram_model.proofs.Prefixes.{Ignores}
 use Rattle.diagram_model.proofs.Values.{live-wider}
-use Rattle.memos.specs.Memo.{Triple, found}
+use Rattle.memos.specs.Memo.{Triple}
 use Rattle.diagram_ops.specs.declared.operands.Operands.{Operands}
 use Rattle.diagram_ops.specs.declared.split.Split.{Split}
 use Rattle.diagram_ops.specs.Operands.{AreLive, AreAbove, AreFrom, SomeHas, rest, depths, IsSplit}
-use Rattle.diagram_ops.specs.Operations.{Operation, result_of, IsResult, kept_for, AreResults, KeepsHigher}
+use Rattle.diagram_ops.specs.Operations.{Operation, result_of, IsResult, AreResults}
 
 pub same_store : (d : Diagram) → Extends d d
 same_store d = record { order = refl; limit = refl; kept = λ n p is. is }

@@ -1,17 +1,15 @@
 -- The topmost variable of three nodes.
-use Rattle.std.proofs.Common.{◌≡◌, ◌≢◌, ◌⊎◌, ℕ, zero, suc, ◌+◌, ◌<◌, ◌≤◌, Bool, true, false, cond, eqb, List, [], ◌∷◌, length, get_or, Option, Some, None, inl, inr, refl, sym, ◌∙◌, ap, arith, eq-eqb}
+use Rattle.std.proofs.Common.{◌≡◌, ◌≢◌, ◌⊎◌, ℕ, suc, ◌+◌, ◌<◌, ◌≤◌, Bool, true, false, cond, eqb, List, [], ◌∷◌, length, get_or, Option, Some, None, inl, inr, refl, sym, ◌∙◌, ap, arith, eq-eqb}
 use Rattle.std.proofs.lemmas.Bool.{cases_eq, cases_Bool, cond-true, cond-false, eqb-true, ne_eqb, false≢true}
 use Rattle.bit_lists.specs.Orders.{has, after, place_in}
 use Rattle.diagram_model.specs.declared.parts.Parts.{Parts}
-use Rattle.diagram_model.specs.Nodes.{parts_of, child, follow, IsLiveIn}
-use Rattle.diagram_model.specs.Stores.{Diagram, IsLive, IsSound, from, depth, depth_of, HasVariable}
+use Rattle.diagram_model.specs.Nodes.{parts_of, follow}
+use Rattle.diagram_model.specs.Stores.{Diagram, IsLive, IsSound, depth, depth_of, HasVariable}
 use Rattle.diagram_model.proofs.Heights.{follow_some, follow_else, follow_none, live_from}
-use Rattle.diagram_model.proofs.Values.{none_some}
 use Rattle.diagram_ops.specs.declared.operands.Operands.{Operands}
 use Rattle.diagram_ops.specs.declared.split.Seen.{Seen}
-use Rattle.diagram_ops.specs.declared.split.Split.{Split}
-use Rattle.diagram_ops.specs.Operands.{AreLive, AreFrom, SomeHas, rest, IsSplit}
-use Rattle.diagram_ops.specs.Seen.{IsSeen, ReadsParts, child_at}
+use Rattle.diagram_ops.specs.Operands.{AreLive, SomeHas, IsSplit}
+use Rattle.diagram_ops.specs.Seen.{IsSeen, child_at}
 
 -- the variable at the place of v is v
 place_at : (vs : List ℕ) (v : ℕ) → has vs v ≡ true → get_or vs (place_in vs v) 0 ≡ v
@@ -24,7 +22,7 @@ place_at (u ∷ us) v h =
     ]
 
 -- the variables above v, v, and those below it are all
-place_after : (vs : List ℕ) (v : ℕ) → has vs v ≡ true → length vs ≡ 1 + length (after vs v) + place_in vs v
+pub place_after : (vs : List ℕ) (v : ℕ) → has vs v ≡ true → length vs ≡ 1 + length (after vs v) + place_in vs v
 unfolding has place_in after
 place_after [] v h = absurd (false≢true h)
 place_after (u ∷ us) v h =
@@ -39,7 +37,7 @@ one_place : (vs : List ℕ) (v w : ℕ) → has vs v ≡ true → has vs w ≡ t
 one_place vs v w hv hw e = sym (place_at vs v hv) ∙ ap (λ i. get_or vs i 0) e ∙ place_at vs w hw
 
 -- a node has parts, or none
-cases_parts : (o : Option Parts) → ((p : Parts) × (o ≡ Some p)) ⊎ (o ≡ None)
+pub cases_parts : (o : Option Parts) → ((p : Parts) × (o ≡ Some p)) ⊎ (o ≡ None)
 cases_parts None = inr refl
 cases_parts (Some p) = inl (p, refl)
 
@@ -48,7 +46,7 @@ held_parts d n (inl small) big = absurd (omega (arith, small, big))
 held_parts d n (inr h) big = (h.parts, h.is)
 
 -- a node with a place among the variables has parts
-placed_parts : (d : Diagram) (n : ℕ) (r : Seen) → IsSeen d n r → r.place < 256 → (p : Parts) × (parts_of d.slots n ≡ Some p)
+pub placed_parts : (d : Diagram) (n : ℕ) (r : Seen) → IsSeen d n r → r.place < 256 → (p : Parts) × (parts_of d.slots n ≡ Some p)
 placed_parts d n r seen lt = elim (cases_parts (parts_of d.slots n)) [ inl is ↦ is | inr none ↦ absurd (omega (arith, seen.none none, lt)) ]
 
 depth_place : (d : Diagram) (n : ℕ) (p : Parts) → IsSound d → parts_of d.slots n ≡ Some p → depth d n + place_in d.order p.var ≡ length d.order
@@ -69,26 +67,25 @@ lower d n m p r t s seen top is le =
       | inr none ↦ let z : depth d n ≡ 0 = ap (depth_of d.order) none in omega (arith, z)
     ]
 
--- what is left of a node once the variable of m is fixed
-left : (d : Diagram) (n m : ℕ) (p : Parts) (r t : Seen) (b : Bool) → IsSound d → IsSeen d n r → IsSeen d m t → parts_of d.slots m ≡ Some p → child_at t.place b r ≡ follow d.slots p.var b n
-left d n m p r t b s seen top is =
-    let tm = top.held p is in
+-- what is left of a node once the variable at a place is fixed
+pub left : (d : Diagram) (n v place : ℕ) (r : Seen) (b : Bool) → IsSound d → IsSeen d n r → has d.order v ≡ true → place ≡ place_in d.order v → place < 256 → child_at place b r ≡ follow d.slots v b n
+left d n v place r b s seen is at within =
     elim (cases_parts (parts_of d.slots n)) [
       | inr none ↦
-          let away : r.place ≢ t.place = λ e. omega (arith, e, seen.none none, tm.within) in
-          cond-false (eqb r.place t.place) (cond b r.high r.low) r.node (ne_eqb r.place t.place away) ∙ seen.node ∙ sym (follow_none d.slots p.var b n none)
+          let away : r.place ≢ place = λ e. omega (arith, e, seen.none none, within) in
+          cond-false (eqb r.place place) (cond b r.high r.low) r.node (ne_eqb r.place place away) ∙ seen.node ∙ sym (follow_none d.slots v b n none)
       | inl held ↦
           let q : Parts = held.0 in
           let rq = seen.held q held.1 in
-          elim (cases_eq r.place t.place) [
+          elim (cases_eq r.place place) [
             | inl e ↦
-                let same : q.var ≡ p.var = one_place d.order q.var p.var (s.diagram.within n q held.1) (s.diagram.within m p is) (sym rq.place ∙ e ∙ tm.place) in
-                cond-true (eqb r.place t.place) (cond b r.high r.low) r.node (eq-eqb r.place t.place e)
+                let same : q.var ≡ v = one_place d.order q.var v (s.diagram.within n q held.1) is (sym rq.place ∙ e ∙ at) in
+                cond-true (eqb r.place place) (cond b r.high r.low) r.node (eq-eqb r.place place e)
                 ∙ ap (λ x. cond b x r.low) rq.high ∙ ap (λ x. cond b q.high x) rq.low
-                ∙ sym (follow_some d.slots p.var b n q held.1 same)
+                ∙ sym (follow_some d.slots v b n q held.1 same)
             | inr ne ↦
-                let away : q.var ≢ p.var = λ e. ne (rq.place ∙ ap (place_in d.order) e ∙ sym tm.place) in
-                cond-false (eqb r.place t.place) (cond b r.high r.low) r.node (ne_eqb r.place t.place ne) ∙ seen.node ∙ sym (follow_else d.slots p.var b n q held.1 away)
+                let away : q.var ≢ v = λ e. ne (rq.place ∙ ap (place_in d.order) e ∙ sym at) in
+                cond-false (eqb r.place place) (cond b r.high r.low) r.node (ne_eqb r.place place ne) ∙ seen.node ∙ sym (follow_else d.slots v b n q held.1 away)
           ]
     ]
 
@@ -162,7 +159,7 @@ split_is d at f g h t fl gl hl fh gh hh s live seen up some efl egl ehl efh egh 
     let is = held.1 in
     let var : t.var ≡ p.var = (top.1.seen.held p is).var in
     let from_p = λ (n : ℕ) (r : Seen) (l : IsLive d n) (i : IsSeen d n r) (le : t.place ≤ r.place). live_from d n m p s l is (lower d n m p r t s i top.1.seen is le) in
-    let of = λ (n c : ℕ) (r : Seen) (b : Bool) (i : IsSeen d n r) (e : c ≡ child_at t.place b r). e ∙ left d n m p r t b s i top.1.seen is ∙ ap (λ v. follow d.slots v b n) (sym var) in
+    let of = λ (n c : ℕ) (r : Seen) (b : Bool) (i : IsSeen d n r) (e : c ≡ child_at t.place b r). e ∙ left d n p.var t.place r b s i (s.diagram.within m p is) (top.1.seen.held p is).place lt ∙ ap (λ v. follow d.slots v b n) (sym var) in
     record {
       var = ap (has d.order) var ∙ s.diagram.within m p is;
       below = rw var (from_p at.f f live.0 seen.of_f up.over_f, from_p at.g g live.1 seen.of_g up.over_g, from_p at.h h live.2 seen.of_h up.over_h);

@@ -1,5 +1,5 @@
 -- A connective of three functions, by its table of eight bits.
-use Rattle.std.specs.Prelude.{◌≡◌, ℕ, ◌+◌, ◌*◌, ◌/◌, ◌%◌, ◌^◌, Bool, cond, ◌==◌}
+use Rattle.std.specs.Prelude.{ℕ, ◌+◌, ◌*◌, ◌/◌, ◌%◌, ◌^◌, Bool, cond, ◌==◌}
 use Rattle.diagram_model.specs.Functions.{Function}
 
 -- bit 4f + 2g + h of the table

@@ -1,4 +1,6 @@
 pub mod Connectives
+pub mod Diagrams
+pub mod Lending
 pub mod Made
 pub mod Operands
 pub mod Operations

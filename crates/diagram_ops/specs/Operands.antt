@@ -36,3 +36,7 @@ pub record IsSplit (d : Diagram) (at : Operands) (s : Split) : Type 0 where
   pub some : SomeHas d s.var at
   pub low : s.low ≡ rest d s.var false at
   pub high : s.high ≡ rest d s.var true at
+
+-- one node, with FALSE in the other two places
+abbrev pub alone : ℕ → Operands
+alone f = record { f = f; g = 0; h = 0 }

@@ -1,7 +1,13 @@
 //! Operations on the functions of a store: connectives of three functions by a table, and cofactors.
+//!
+//! `Diagrams` holds a store with the cache of its connectives, and is what the crates above call.
 #![tactic(auto)]
 
 mod connect;
+mod diagrams;
 mod operands;
+mod restrict;
 mod short;
 mod split;
+
+pub use diagrams::Diagrams;

@@ -1,10 +1,10 @@
-use Rattle.std.proofs.Common.{◌≡◌, ◌<◌, sym, ◌∙◌, arith, rules}
+use Rattle.std.proofs.Common.{◌≡◌, ◌<◌, None, sym, ◌∙◌, arith, rules}
 use Rattle.diagram_model.proofs.Growing.{extends_trans}
 use Rattle.diagram_ops.specs.Connectives.{connected}
 use Rattle.diagram_ops.specs.Made.{StopIs, IsPart, Keeps}
 use Rattle.diagram_ops.specs.Operands.{depths}
-use Rattle.diagram_ops.specs.Operations.{IsResult}
-use Rattle.diagram_ops.proofs.Calls.{Begins, low_live, low_falls, keeps_low, stop_low, high_live, high_falls, keeps_both, stop_high, still_none, both_made, keeps_refused, keeps_node, keeps_put}
+use Rattle.diagram_ops.specs.Operations.{IsResult, kept_for}
+use Rattle.diagram_ops.proofs.Calls.{Begins, low_live, low_falls, keeps_low, stop_low, high_live, high_falls, keeps_both, stop_high, still_none, unmet_before, both_made, keeps_refused, keeps_node, keeps_put}
 use Rattle.diagram_ops.proofs.Connecting.{connected_fixes, short_result}
 use Rattle.diagram_ops.proofs.Making.{whole_missing}
 use Rattle.diagram_ops.proofs.Results.{IsStep, step_low, step_high, step_result}
@@ -182,7 +182,9 @@ add-requires g t c =
     let m1 = c.connect.new.memo in
     let k = c.connect-2.new.store in
     let m2 = c.connect-2.new.memo in
-    record { new = still_none op d at s b e m0 m1 c.connect.ensures.keeps k m2 c.connect-2.ensures.keeps (sym c.find.ensures ∙ c.in_default-find.is) }
+    let unmet : c.find.result ≡ None = c.in_default-find.is in
+    let none : kept_for m0 at ≡ None = unmet_before m0 at c.find.result c.find.ensures unmet in
+    record { new = still_none op d at s b e m0 m1 c.connect.ensures.keeps k m2 c.connect-2.ensures.keeps none }
 
 pub returns-in_err-add-clause-keeps : goal.returns-in_err-add-clause-keeps
 returns-in_err-add-clause-keeps g t c =
@@ -203,7 +205,7 @@ returns-in_err-add-clause-keeps g t c =
     let m = c.make.new.self in
     let node = c.in_ok-node.node.0 in
     let is : IsResult op m at node = step_result op d k m at s low high node step c.make.ensures.sound c.make.ensures.extends (extends_trans d k m kept.extends c.make.ensures.extends) c.in_ok-node.ensures.live c.in_ok-node.ensures.denotes in
-    let made : Keeps op at d m m0 m2 = keeps_node op at d k m node m0 m2 c.requires.sound c.requires.live kept c.make.ensures.sound c.make.ensures.extends is c.in_ok-node.ensures.only in
+    let made : Keeps op at d m m0 m2 = keeps_node op at d k m node m0 m2 b.sound b.live kept c.make.ensures.sound c.make.ensures.extends is c.in_ok-node.ensures.only in
     rw c.in_err-add.ensures.err made
 
 pub returns-clause-keeps : goal.returns-clause-keeps
@@ -225,7 +227,7 @@ returns-clause-keeps g t c =
     let m = c.make.new.self in
     let node = c.in_ok-node.node.0 in
     let is : IsResult op m at node = step_result op d k m at s low high node step c.make.ensures.sound c.make.ensures.extends (extends_trans d k m kept.extends c.make.ensures.extends) c.in_ok-node.ensures.live c.in_ok-node.ensures.denotes in
-    let made : Keeps op at d m m0 m2 = keeps_node op at d k m node m0 m2 c.requires.sound c.requires.live kept c.make.ensures.sound c.make.ensures.extends is c.in_ok-node.ensures.only in
+    let made : Keeps op at d m m0 m2 = keeps_node op at d k m node m0 m2 b.sound b.live kept c.make.ensures.sound c.make.ensures.extends is c.in_ok-node.ensures.only in
     keeps_put op at d m node m0 m2 c.add.new.self made is c.in_ok-add.ensures.here c.add.ensures.others
 
 pub returns-clause-result : goal.returns-clause-result
@@ -247,5 +249,5 @@ returns-clause-result g t c =
     let m = c.make.new.self in
     let node = c.in_ok-node.node.0 in
     let is : IsResult op m at node = step_result op d k m at s low high node step c.make.ensures.sound c.make.ensures.extends (extends_trans d k m kept.extends c.make.ensures.extends) c.in_ok-node.ensures.live c.in_ok-node.ensures.denotes in
-    let made : Keeps op at d m m0 m2 = keeps_node op at d k m node m0 m2 c.requires.sound c.requires.live kept c.make.ensures.sound c.make.ensures.extends is c.in_ok-node.ensures.only in
+    let made : Keeps op at d m m0 m2 = keeps_node op at d k m node m0 m2 b.sound b.live kept c.make.ensures.sound c.make.ensures.extends is c.in_ok-node.ensures.only in
     is

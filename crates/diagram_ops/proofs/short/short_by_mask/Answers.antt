@@ -1,6 +1,4 @@
-use Rattle.std.proofs.Common.{◌≡◌, sym, ◌∙◌, ap}
-use Rattle.std.specs.Prelude.{bit_and}
-use Rattle.diagram_ops.specs.Short.{mask_of}
+use Rattle.std.proofs.Common.{sym}
 use Rattle.diagram_ops.proofs.Shorts.{short_false, short_true, short_f, short_g, short_h}
 use Rattle.diagram_ops.proofs.short.short_by_mask.Goals as goal
 

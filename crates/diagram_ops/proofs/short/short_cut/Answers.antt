@@ -1,5 +1,4 @@
 use Rattle.diagram_ops.proofs.Shorts.{short_bit}
-use Rattle.diagram_ops.specs.Short.{IsShort}
 use Rattle.diagram_ops.proofs.short.short_cut.Goals as goal
 
 pub returns-then-at-lt2-3-clause-short : goal.returns-then-at-lt2-3-clause-short

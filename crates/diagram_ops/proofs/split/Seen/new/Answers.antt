@@ -1,4 +1,4 @@
-use Rattle.std.proofs.Common.{◌≡◌, ◌<◌, length, sym, ◌∙◌, Some}
+use Rattle.std.proofs.Common.{sym, ◌∙◌}
 use Rattle.diagram_ops.proofs.Variables.{var_within}
 use Rattle.diagram_ops.proofs.split.Seen.new.Goals as goal
 

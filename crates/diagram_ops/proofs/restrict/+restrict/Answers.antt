@@ -1,0 +1,330 @@
+use Rattle.std.proofs.Common.{◌≡◌, ◌<◌, ◌≤◌, None, sym, ◌∙◌, inl, arith, rules}
+use Rattle.diagram_model.proofs.Growing.{extends_trans}
+use Rattle.diagram_ops.specs.declared.split.Seen.{Seen}
+use Rattle.diagram_ops.specs.Made.{StopIs, IsPart, Keeps}
+use Rattle.diagram_ops.specs.Operands.{alone, depths}
+use Rattle.diagram_ops.specs.Operations.{restricted, IsResult, kept_for}
+use Rattle.diagram_ops.proofs.Calls.{Begins, low_live, low_falls, keeps_low, stop_low, high_live, high_falls, keeps_both, stop_high, still_none, unmet_before, both_made, keeps_refused, keeps_node, keeps_put}
+use Rattle.diagram_ops.proofs.Making.{whole_missing}
+use Rattle.diagram_ops.proofs.Restricting.{restricted_fixes, restricted_here, alone_split, alone_splits, other_place}
+use Rattle.diagram_ops.proofs.Results.{IsStep, step_low, step_high, step_result, var_on}
+use Rattle.diagram_ops.proofs.restrict.+restrict.Goals as goal
+
+pub returns-then-seen-place-clause-result : goal.returns-then-seen-place-clause-result
+returns-then-seen-place-clause-result g t c =
+    let small : c.place_of-place.result < 256 = omega (arith, c.place_of-place.type_inv) in
+    let lower : c.place_of-place.result ≤ c.new-seen.result.place = omega (arith, c.if-seen-place.true) in
+    restricted_here c.args.store.now c.args.var c.args.f c.child.result c.args.bit c.new-seen.result c.place_of-place.result c.requires.sound c.requires.live
+    (c.requires.sound.all c.args.var c.requires.var) c.new-seen.ensures c.place_of-place.ensures.place small lower c.child.ensures
+
+pub returns-in-Some-clause-result : goal.returns-in-Some-clause-result
+returns-in-Some-clause-result g t c = c.requires.results (alone c.args.f) c.in-Some.node (sym c.find.ensures ∙ c.in-Some.is)
+
+pub restrict-requires : goal.restrict-requires
+restrict-requires g t c κs within =
+    let op = restricted c.args.var c.args.bit in
+    let d = c.args.store.now in
+    let at = alone c.args.f in
+    let r : Seen = c.new-seen.result in
+    let s = alone_split r in
+    let small : c.place_of-place.result < 256 = omega (arith, c.place_of-place.type_inv) in
+    let upper : r.place < c.place_of-place.result = omega (arith, c.if-seen-place.false) in
+    let held : r.place < 256 = omega (arith, small, upper) in
+    let b : Begins op d at s = record { sound = c.requires.sound; live = (c.requires.live, inl (omega arith), inl (omega arith)); split = alone_splits d c.args.f r c.requires.sound c.new-seen.ensures held; fixes = restricted_fixes c.args.var c.args.bit r.var (other_place d c.args.f c.args.var r c.new-seen.ensures held (omega (arith, upper, c.place_of-place.ensures.place))) } in
+    let less : depths d s.low < depths d at = low_falls op d at s b in
+    let q = c.decreases in
+    (omega (arith, less, q), (within, (c.requires.sound, ((low_live op d at s b).0, (c.requires.var, c.requires.results)))))
+
+pub returns-in_err-low-clause-keeps : goal.returns-in_err-low-clause-keeps
+returns-in_err-low-clause-keeps g t c =
+    let op = restricted c.args.var c.args.bit in
+    let d = c.args.store.now in
+    let at = alone c.args.f in
+    let r : Seen = c.new-seen.result in
+    let s = alone_split r in
+    let small : c.place_of-place.result < 256 = omega (arith, c.place_of-place.type_inv) in
+    let upper : r.place < c.place_of-place.result = omega (arith, c.if-seen-place.false) in
+    let held : r.place < 256 = omega (arith, small, upper) in
+    let b : Begins op d at s = record { sound = c.requires.sound; live = (c.requires.live, inl (omega arith), inl (omega arith)); split = alone_splits d c.args.f r c.requires.sound c.new-seen.ensures held; fixes = restricted_fixes c.args.var c.args.bit r.var (other_place d c.args.f c.args.var r c.new-seen.ensures held (omega (arith, upper, c.place_of-place.ensures.place))) } in
+    let e = c.restrict.new.store in
+    let m0 = c.args.memo.now in
+    let m1 = c.restrict.new.memo in
+    keeps_low op d at s b e m0 m1 c.restrict.ensures.keeps
+
+pub returns-in_err-low-clause-stop : goal.returns-in_err-low-clause-stop
+returns-in_err-low-clause-stop g t c =
+    let op = restricted c.args.var c.args.bit in
+    let d = c.args.store.now in
+    let at = alone c.args.f in
+    let r : Seen = c.new-seen.result in
+    let s = alone_split r in
+    let small : c.place_of-place.result < 256 = omega (arith, c.place_of-place.type_inv) in
+    let upper : r.place < c.place_of-place.result = omega (arith, c.if-seen-place.false) in
+    let held : r.place < 256 = omega (arith, small, upper) in
+    let b : Begins op d at s = record { sound = c.requires.sound; live = (c.requires.live, inl (omega arith), inl (omega arith)); split = alone_splits d c.args.f r c.requires.sound c.new-seen.ensures held; fixes = restricted_fixes c.args.var c.args.bit r.var (other_place d c.args.f c.args.var r c.new-seen.ensures held (omega (arith, upper, c.place_of-place.ensures.place))) } in
+    let e = c.restrict.new.store in
+    let m0 = c.args.memo.now in
+    let m1 = c.restrict.new.memo in
+    let stop : StopIs e (IsPart op d at) c.in_err-low.field-0.0 = stop_low op d at s b e c.in_err-low.field-0.0 c.in_err-low.ensures.stop in
+    search rules
+
+pub restrict-requires-2 : goal.restrict-requires-2
+restrict-requires-2 g t c κs within =
+    let op = restricted c.args.var c.args.bit in
+    let d = c.args.store.now in
+    let at = alone c.args.f in
+    let r : Seen = c.new-seen.result in
+    let s = alone_split r in
+    let small : c.place_of-place.result < 256 = omega (arith, c.place_of-place.type_inv) in
+    let upper : r.place < c.place_of-place.result = omega (arith, c.if-seen-place.false) in
+    let held : r.place < 256 = omega (arith, small, upper) in
+    let b : Begins op d at s = record { sound = c.requires.sound; live = (c.requires.live, inl (omega arith), inl (omega arith)); split = alone_splits d c.args.f r c.requires.sound c.new-seen.ensures held; fixes = restricted_fixes c.args.var c.args.bit r.var (other_place d c.args.f c.args.var r c.new-seen.ensures held (omega (arith, upper, c.place_of-place.ensures.place))) } in
+    let e = c.restrict.new.store in
+    let m0 = c.args.memo.now in
+    let m1 = c.restrict.new.memo in
+    let less : depths e s.high < depths d at = high_falls op d at s b e m0 m1 c.restrict.ensures.keeps in
+    let q = c.decreases in
+    (omega (arith, less, q), (within, (c.restrict.ensures.keeps.sound, ((high_live op d at s b e m0 m1 c.restrict.ensures.keeps).0, (rw c.restrict.ensures.keeps.extends.order c.requires.var, c.restrict.ensures.keeps.results)))))
+
+pub returns-in_err-high-clause-keeps : goal.returns-in_err-high-clause-keeps
+returns-in_err-high-clause-keeps g t c =
+    let op = restricted c.args.var c.args.bit in
+    let d = c.args.store.now in
+    let at = alone c.args.f in
+    let r : Seen = c.new-seen.result in
+    let s = alone_split r in
+    let small : c.place_of-place.result < 256 = omega (arith, c.place_of-place.type_inv) in
+    let upper : r.place < c.place_of-place.result = omega (arith, c.if-seen-place.false) in
+    let held : r.place < 256 = omega (arith, small, upper) in
+    let b : Begins op d at s = record { sound = c.requires.sound; live = (c.requires.live, inl (omega arith), inl (omega arith)); split = alone_splits d c.args.f r c.requires.sound c.new-seen.ensures held; fixes = restricted_fixes c.args.var c.args.bit r.var (other_place d c.args.f c.args.var r c.new-seen.ensures held (omega (arith, upper, c.place_of-place.ensures.place))) } in
+    let e = c.restrict.new.store in
+    let m0 = c.args.memo.now in
+    let m1 = c.restrict.new.memo in
+    let k = c.restrict-2.new.store in
+    let m2 = c.restrict-2.new.memo in
+    keeps_both op d at s b e m0 m1 c.restrict.ensures.keeps k m2 c.restrict-2.ensures.keeps
+
+pub returns-in_err-high-clause-stop : goal.returns-in_err-high-clause-stop
+returns-in_err-high-clause-stop g t c =
+    let op = restricted c.args.var c.args.bit in
+    let d = c.args.store.now in
+    let at = alone c.args.f in
+    let r : Seen = c.new-seen.result in
+    let s = alone_split r in
+    let small : c.place_of-place.result < 256 = omega (arith, c.place_of-place.type_inv) in
+    let upper : r.place < c.place_of-place.result = omega (arith, c.if-seen-place.false) in
+    let held : r.place < 256 = omega (arith, small, upper) in
+    let b : Begins op d at s = record { sound = c.requires.sound; live = (c.requires.live, inl (omega arith), inl (omega arith)); split = alone_splits d c.args.f r c.requires.sound c.new-seen.ensures held; fixes = restricted_fixes c.args.var c.args.bit r.var (other_place d c.args.f c.args.var r c.new-seen.ensures held (omega (arith, upper, c.place_of-place.ensures.place))) } in
+    let e = c.restrict.new.store in
+    let m0 = c.args.memo.now in
+    let m1 = c.restrict.new.memo in
+    let k = c.restrict-2.new.store in
+    let m2 = c.restrict-2.new.memo in
+    let stop : StopIs k (IsPart op d at) c.in_err-high.field-0.0 = stop_high op d at s b e m0 m1 c.restrict.ensures.keeps k c.in_err-high.field-0.0 c.in_err-high.ensures.stop in
+    search rules
+
+pub make-requires-clause-var : goal.make-requires-clause-var
+make-requires-clause-var g t c =
+    let op = restricted c.args.var c.args.bit in
+    let d = c.args.store.now in
+    let at = alone c.args.f in
+    let r : Seen = c.new-seen.result in
+    let s = alone_split r in
+    let small : c.place_of-place.result < 256 = omega (arith, c.place_of-place.type_inv) in
+    let upper : r.place < c.place_of-place.result = omega (arith, c.if-seen-place.false) in
+    let held : r.place < 256 = omega (arith, small, upper) in
+    let b : Begins op d at s = record { sound = c.requires.sound; live = (c.requires.live, inl (omega arith), inl (omega arith)); split = alone_splits d c.args.f r c.requires.sound c.new-seen.ensures held; fixes = restricted_fixes c.args.var c.args.bit r.var (other_place d c.args.f c.args.var r c.new-seen.ensures held (omega (arith, upper, c.place_of-place.ensures.place))) } in
+    let e = c.restrict.new.store in
+    let m0 = c.args.memo.now in
+    let m1 = c.restrict.new.memo in
+    let k = c.restrict-2.new.store in
+    let m2 = c.restrict-2.new.memo in
+    let kept : Keeps op at d k m0 m2 = keeps_both op d at s b e m0 m1 c.restrict.ensures.keeps k m2 c.restrict-2.ensures.keeps in
+    var_on d k r.var kept.extends b.split.var
+
+pub make-requires-clause-low : goal.make-requires-clause-low
+make-requires-clause-low g t c =
+    let op = restricted c.args.var c.args.bit in
+    let d = c.args.store.now in
+    let at = alone c.args.f in
+    let r : Seen = c.new-seen.result in
+    let s = alone_split r in
+    let small : c.place_of-place.result < 256 = omega (arith, c.place_of-place.type_inv) in
+    let upper : r.place < c.place_of-place.result = omega (arith, c.if-seen-place.false) in
+    let held : r.place < 256 = omega (arith, small, upper) in
+    let b : Begins op d at s = record { sound = c.requires.sound; live = (c.requires.live, inl (omega arith), inl (omega arith)); split = alone_splits d c.args.f r c.requires.sound c.new-seen.ensures held; fixes = restricted_fixes c.args.var c.args.bit r.var (other_place d c.args.f c.args.var r c.new-seen.ensures held (omega (arith, upper, c.place_of-place.ensures.place))) } in
+    let e = c.restrict.new.store in
+    let m0 = c.args.memo.now in
+    let m1 = c.restrict.new.memo in
+    let k = c.restrict-2.new.store in
+    let m2 = c.restrict-2.new.memo in
+    let low = c.in_ok-low.low.0 in
+    let high = c.in_ok-high.high.0 in
+    let step : IsStep op d k at s low high = both_made op d at s b e m0 m1 c.restrict.ensures.keeps k m2 low high c.restrict-2.ensures.keeps c.in_ok-low.ensures.result c.in_ok-high.ensures.result in
+    let kept : Keeps op at d k m0 m2 = keeps_both op d at s b e m0 m1 c.restrict.ensures.keeps k m2 c.restrict-2.ensures.keeps in
+    step_low op d k at s low high step
+
+pub make-requires-clause-high : goal.make-requires-clause-high
+make-requires-clause-high g t c =
+    let op = restricted c.args.var c.args.bit in
+    let d = c.args.store.now in
+    let at = alone c.args.f in
+    let r : Seen = c.new-seen.result in
+    let s = alone_split r in
+    let small : c.place_of-place.result < 256 = omega (arith, c.place_of-place.type_inv) in
+    let upper : r.place < c.place_of-place.result = omega (arith, c.if-seen-place.false) in
+    let held : r.place < 256 = omega (arith, small, upper) in
+    let b : Begins op d at s = record { sound = c.requires.sound; live = (c.requires.live, inl (omega arith), inl (omega arith)); split = alone_splits d c.args.f r c.requires.sound c.new-seen.ensures held; fixes = restricted_fixes c.args.var c.args.bit r.var (other_place d c.args.f c.args.var r c.new-seen.ensures held (omega (arith, upper, c.place_of-place.ensures.place))) } in
+    let e = c.restrict.new.store in
+    let m0 = c.args.memo.now in
+    let m1 = c.restrict.new.memo in
+    let k = c.restrict-2.new.store in
+    let m2 = c.restrict-2.new.memo in
+    let low = c.in_ok-low.low.0 in
+    let high = c.in_ok-high.high.0 in
+    let step : IsStep op d k at s low high = both_made op d at s b e m0 m1 c.restrict.ensures.keeps k m2 low high c.restrict-2.ensures.keeps c.in_ok-low.ensures.result c.in_ok-high.ensures.result in
+    let kept : Keeps op at d k m0 m2 = keeps_both op d at s b e m0 m1 c.restrict.ensures.keeps k m2 c.restrict-2.ensures.keeps in
+    step_high op d k at s low high step
+
+pub returns-in_err-node-clause-keeps : goal.returns-in_err-node-clause-keeps
+returns-in_err-node-clause-keeps g t c =
+    let op = restricted c.args.var c.args.bit in
+    let d = c.args.store.now in
+    let at = alone c.args.f in
+    let r : Seen = c.new-seen.result in
+    let s = alone_split r in
+    let small : c.place_of-place.result < 256 = omega (arith, c.place_of-place.type_inv) in
+    let upper : r.place < c.place_of-place.result = omega (arith, c.if-seen-place.false) in
+    let held : r.place < 256 = omega (arith, small, upper) in
+    let b : Begins op d at s = record { sound = c.requires.sound; live = (c.requires.live, inl (omega arith), inl (omega arith)); split = alone_splits d c.args.f r c.requires.sound c.new-seen.ensures held; fixes = restricted_fixes c.args.var c.args.bit r.var (other_place d c.args.f c.args.var r c.new-seen.ensures held (omega (arith, upper, c.place_of-place.ensures.place))) } in
+    let e = c.restrict.new.store in
+    let m0 = c.args.memo.now in
+    let m1 = c.restrict.new.memo in
+    let k = c.restrict-2.new.store in
+    let m2 = c.restrict-2.new.memo in
+    let low = c.in_ok-low.low.0 in
+    let high = c.in_ok-high.high.0 in
+    let step : IsStep op d k at s low high = both_made op d at s b e m0 m1 c.restrict.ensures.keeps k m2 low high c.restrict-2.ensures.keeps c.in_ok-low.ensures.result c.in_ok-high.ensures.result in
+    let kept : Keeps op at d k m0 m2 = keeps_both op d at s b e m0 m1 c.restrict.ensures.keeps k m2 c.restrict-2.ensures.keeps in
+    keeps_refused op at d k c.make.new.self m0 m2 kept c.in_err-node.ensures.refused
+
+pub returns-in_err-node-clause-stop : goal.returns-in_err-node-clause-stop
+returns-in_err-node-clause-stop g t c =
+    let op = restricted c.args.var c.args.bit in
+    let d = c.args.store.now in
+    let at = alone c.args.f in
+    let r : Seen = c.new-seen.result in
+    let s = alone_split r in
+    let small : c.place_of-place.result < 256 = omega (arith, c.place_of-place.type_inv) in
+    let upper : r.place < c.place_of-place.result = omega (arith, c.if-seen-place.false) in
+    let held : r.place < 256 = omega (arith, small, upper) in
+    let b : Begins op d at s = record { sound = c.requires.sound; live = (c.requires.live, inl (omega arith), inl (omega arith)); split = alone_splits d c.args.f r c.requires.sound c.new-seen.ensures held; fixes = restricted_fixes c.args.var c.args.bit r.var (other_place d c.args.f c.args.var r c.new-seen.ensures held (omega (arith, upper, c.place_of-place.ensures.place))) } in
+    let e = c.restrict.new.store in
+    let m0 = c.args.memo.now in
+    let m1 = c.restrict.new.memo in
+    let k = c.restrict-2.new.store in
+    let m2 = c.restrict-2.new.memo in
+    let low = c.in_ok-low.low.0 in
+    let high = c.in_ok-high.high.0 in
+    let step : IsStep op d k at s low high = both_made op d at s b e m0 m1 c.restrict.ensures.keeps k m2 low high c.restrict-2.ensures.keeps c.in_ok-low.ensures.result c.in_ok-high.ensures.result in
+    let kept : Keeps op at d k m0 m2 = keeps_both op d at s b e m0 m1 c.restrict.ensures.keeps k m2 c.restrict-2.ensures.keeps in
+    let stop : StopIs c.make.new.self (IsPart op d at) c.in_err-node.field-0.0 = whole_missing op d k c.make.new.self at s low high step c.in_err-node.ensures.refused c.in_err-node.field-0.0 c.in_err-node.ensures.stop in
+    search rules
+
+pub add-requires : goal.add-requires
+add-requires g t c =
+    let op = restricted c.args.var c.args.bit in
+    let d = c.args.store.now in
+    let at = alone c.args.f in
+    let r : Seen = c.new-seen.result in
+    let s = alone_split r in
+    let small : c.place_of-place.result < 256 = omega (arith, c.place_of-place.type_inv) in
+    let upper : r.place < c.place_of-place.result = omega (arith, c.if-seen-place.false) in
+    let held : r.place < 256 = omega (arith, small, upper) in
+    let b : Begins op d at s = record { sound = c.requires.sound; live = (c.requires.live, inl (omega arith), inl (omega arith)); split = alone_splits d c.args.f r c.requires.sound c.new-seen.ensures held; fixes = restricted_fixes c.args.var c.args.bit r.var (other_place d c.args.f c.args.var r c.new-seen.ensures held (omega (arith, upper, c.place_of-place.ensures.place))) } in
+    let e = c.restrict.new.store in
+    let m0 = c.args.memo.now in
+    let m1 = c.restrict.new.memo in
+    let k = c.restrict-2.new.store in
+    let m2 = c.restrict-2.new.memo in
+    let unmet : c.find.result ≡ None = c.in_default.is in
+    let none : kept_for m0 at ≡ None = unmet_before m0 at c.find.result c.find.ensures unmet in
+    record { new = still_none op d at s b e m0 m1 c.restrict.ensures.keeps k m2 c.restrict-2.ensures.keeps none }
+
+pub returns-in_err-add-clause-keeps : goal.returns-in_err-add-clause-keeps
+returns-in_err-add-clause-keeps g t c =
+    let op = restricted c.args.var c.args.bit in
+    let d = c.args.store.now in
+    let at = alone c.args.f in
+    let r : Seen = c.new-seen.result in
+    let s = alone_split r in
+    let small : c.place_of-place.result < 256 = omega (arith, c.place_of-place.type_inv) in
+    let upper : r.place < c.place_of-place.result = omega (arith, c.if-seen-place.false) in
+    let held : r.place < 256 = omega (arith, small, upper) in
+    let b : Begins op d at s = record { sound = c.requires.sound; live = (c.requires.live, inl (omega arith), inl (omega arith)); split = alone_splits d c.args.f r c.requires.sound c.new-seen.ensures held; fixes = restricted_fixes c.args.var c.args.bit r.var (other_place d c.args.f c.args.var r c.new-seen.ensures held (omega (arith, upper, c.place_of-place.ensures.place))) } in
+    let e = c.restrict.new.store in
+    let m0 = c.args.memo.now in
+    let m1 = c.restrict.new.memo in
+    let k = c.restrict-2.new.store in
+    let m2 = c.restrict-2.new.memo in
+    let low = c.in_ok-low.low.0 in
+    let high = c.in_ok-high.high.0 in
+    let step : IsStep op d k at s low high = both_made op d at s b e m0 m1 c.restrict.ensures.keeps k m2 low high c.restrict-2.ensures.keeps c.in_ok-low.ensures.result c.in_ok-high.ensures.result in
+    let kept : Keeps op at d k m0 m2 = keeps_both op d at s b e m0 m1 c.restrict.ensures.keeps k m2 c.restrict-2.ensures.keeps in
+    let m = c.make.new.self in
+    let node = c.in_ok-node.node.0 in
+    let is : IsResult op m at node = step_result op d k m at s low high node step c.make.ensures.sound c.make.ensures.extends (extends_trans d k m kept.extends c.make.ensures.extends) c.in_ok-node.ensures.live c.in_ok-node.ensures.denotes in
+    let made : Keeps op at d m m0 m2 = keeps_node op at d k m node m0 m2 b.sound b.live kept c.make.ensures.sound c.make.ensures.extends is c.in_ok-node.ensures.only in
+    rw c.in_err-add.ensures.err made
+
+pub returns-clause-keeps : goal.returns-clause-keeps
+returns-clause-keeps g t c =
+    let op = restricted c.args.var c.args.bit in
+    let d = c.args.store.now in
+    let at = alone c.args.f in
+    let r : Seen = c.new-seen.result in
+    let s = alone_split r in
+    let small : c.place_of-place.result < 256 = omega (arith, c.place_of-place.type_inv) in
+    let upper : r.place < c.place_of-place.result = omega (arith, c.if-seen-place.false) in
+    let held : r.place < 256 = omega (arith, small, upper) in
+    let b : Begins op d at s = record { sound = c.requires.sound; live = (c.requires.live, inl (omega arith), inl (omega arith)); split = alone_splits d c.args.f r c.requires.sound c.new-seen.ensures held; fixes = restricted_fixes c.args.var c.args.bit r.var (other_place d c.args.f c.args.var r c.new-seen.ensures held (omega (arith, upper, c.place_of-place.ensures.place))) } in
+    let e = c.restrict.new.store in
+    let m0 = c.args.memo.now in
+    let m1 = c.restrict.new.memo in
+    let k = c.restrict-2.new.store in
+    let m2 = c.restrict-2.new.memo in
+    let low = c.in_ok-low.low.0 in
+    let high = c.in_ok-high.high.0 in
+    let step : IsStep op d k at s low high = both_made op d at s b e m0 m1 c.restrict.ensures.keeps k m2 low high c.restrict-2.ensures.keeps c.in_ok-low.ensures.result c.in_ok-high.ensures.result in
+    let kept : Keeps op at d k m0 m2 = keeps_both op d at s b e m0 m1 c.restrict.ensures.keeps k m2 c.restrict-2.ensures.keeps in
+    let m = c.make.new.self in
+    let node = c.in_ok-node.node.0 in
+    let is : IsResult op m at node = step_result op d k m at s low high node step c.make.ensures.sound c.make.ensures.extends (extends_trans d k m kept.extends c.make.ensures.extends) c.in_ok-node.ensures.live c.in_ok-node.ensures.denotes in
+    let made : Keeps op at d m m0 m2 = keeps_node op at d k m node m0 m2 b.sound b.live kept c.make.ensures.sound c.make.ensures.extends is c.in_ok-node.ensures.only in
+    keeps_put op at d m node m0 m2 c.add.new.self made is c.in_ok-add.ensures.here c.add.ensures.others
+
+pub returns-clause-result : goal.returns-clause-result
+returns-clause-result g t c =
+    let op = restricted c.args.var c.args.bit in
+    let d = c.args.store.now in
+    let at = alone c.args.f in
+    let r : Seen = c.new-seen.result in
+    let s = alone_split r in
+    let small : c.place_of-place.result < 256 = omega (arith, c.place_of-place.type_inv) in
+    let upper : r.place < c.place_of-place.result = omega (arith, c.if-seen-place.false) in
+    let held : r.place < 256 = omega (arith, small, upper) in
+    let b : Begins op d at s = record { sound = c.requires.sound; live = (c.requires.live, inl (omega arith), inl (omega arith)); split = alone_splits d c.args.f r c.requires.sound c.new-seen.ensures held; fixes = restricted_fixes c.args.var c.args.bit r.var (other_place d c.args.f c.args.var r c.new-seen.ensures held (omega (arith, upper, c.place_of-place.ensures.place))) } in
+    let e = c.restrict.new.store in
+    let m0 = c.args.memo.now in
+    let m1 = c.restrict.new.memo in
+    let k = c.restrict-2.new.store in
+    let m2 = c.restrict-2.new.memo in
+    let low = c.in_ok-low.low.0 in
+    let high = c.in_ok-high.high.0 in
+    let step : IsStep op d k at s low high = both_made op d at s b e m0 m1 c.restrict.ensures.keeps k m2 low high c.restrict-2.ensures.keeps c.in_ok-low.ensures.result c.in_ok-high.ensures.result in
+    let kept : Keeps op at d k m0 m2 = keeps_both op d at s b e m0 m1 c.restrict.ensures.keeps k m2 c.restrict-2.ensures.keeps in
+    let m = c.make.new.self in
+    let node = c.in_ok-node.node.0 in
+    let is : IsResult op m at node = step_result op d k m at s low high node step c.make.ensures.sound c.make.ensures.extends (extends_trans d k m kept.extends c.make.ensures.extends) c.in_ok-node.ensures.live c.in_ok-node.ensures.denotes in
+    let made : Keeps op at d m m0 m2 = keeps_node op at d k m node m0 m2 b.sound b.live kept c.make.ensures.sound c.make.ensures.extends is c.in_ok-node.ensures.only in
+    is

@@ -1,0 +1,216 @@
+//! A store with the cache of its connectives.
+ghost use Rattle.std.specs.Prelude.{◌≡◌, ◌∷◌, [], ◌<◌, ◌≤◌, IfOk, OnOk, OnErr, IfErr, IfSome, length, take};
+ghost use Rattle.std.specs.Borrow.{sem};
+ghost use Rattle.std.specs.List.{range_with_len};
+ghost use Rattle.computed_cache.specs.Entries.{value_at};
+ghost use Rattle.diagram_model.specs.Functions.{IsPrefixOf, fix};
+ghost use Rattle.diagram_model.specs.Stores.{held, IsLive, Extends, KeepsFunctions, AddsOnly, NoRoom, function_of};
+ghost use Rattle.diagram_ops.specs.Diagrams.{IsConsistent, IsHit, key_of, connective_of, variable_of};
+ghost use Rattle.diagram_ops.specs.Lending.{lends_store};
+ghost use Rattle.diagram_ops.specs.Made.{MakesOnly, StopIs};
+ghost use Rattle.node_store.specs.Makes.{StopMeans};
+
+use crate::connect::connect;
+use crate::operands::Operands;
+use crate::restrict::restrict;
+use bit_lists::OutOfMemory;
+use computed_cache::{Cache, Key};
+use memos::Memo;
+use node_store::{FALSE, Node, Store, StoreStop, TRUE};
+use std::alloc::Global;
+use std::marker::{Brand, Model};
+use std::sync::ledger::{Blank, Ledger};
+use steps::Steps;
+
+/// A store of nodes, with a cache of the answers of connectives.
+///
+/// Each entry of the cache names live nodes only, and its value denotes its table's connective of its
+/// three functions. The memory of one call's memo is kept for the next.
+#[derive(Drop)]
+pub struct Diagrams {
+    store: Store,
+    cache: Cache,
+    memo: Memo,
+}
+
+impl Model for Diagrams {
+    ghost use Rattle.diagram_ops.specs.Diagrams.{Shared, AreRight};
+
+    ghost Value = { Shared };
+
+    ghost view = { λ d. record { store = d.store; cache = d.cache } };
+
+    ghost invariant = { λ d. AreRight d.store d.cache.entries };
+}
+
+impl Diagrams {
+    /// A store that holds no node, in the natural order, and an empty cache.
+    pub fn new(alloc: Global, vars: u8, limit: u32, capacity: u32) -> Result<Diagrams, OutOfMemory>
+        requires vars { vars ≤ 128 }
+        requires some { 1 ≤ limit }
+        requires limit { limit ≤ 16777216 }
+        requires some_entry { 1 ≤ capacity }
+        requires capacity { capacity ≤ 1048576 }
+        ensures empty { IfOk result (λ d. held d.store ≡ 0) }
+        ensures order { IfOk result (λ d. d.store.order ≡ range_with_len 0 vars) }
+        ensures limit { IfOk result (λ d. d.store.limit ≡ limit) }
+        ensures cache { IfOk result (λ d. d.cache ≡ record { entries = []; capacity = capacity }) }
+        ensures sound { IfOk result IsConsistent }
+    {
+        Ok(Diagrams {
+            store: Store::new(alloc, vars, limit)?,
+            cache: Cache::new(alloc, capacity)?,
+            memo: Memo::new(alloc),
+        })
+    }
+
+    /// The nodes.
+    pub fn store(&self) -> &Store
+        ensures value { result.now ≡ self.now.store }
+        ensures sound { IsConsistent self.now }
+    {
+        let _held = self.store.held();
+        &self.store
+    }
+
+    /// How many answers the cache has.
+    pub fn cached(&self) -> u32
+        ensures count { result ≡ length self.now.cache.entries }
+        ensures sound { IsConsistent self.now }
+    {
+        let _held = self.store.held();
+        self.cache.len()
+    }
+
+    /// Empties the cache.
+    pub fn forget(&mut self)
+        ensures empty { self.new.cache.entries ≡ [] }
+        ensures capacity { self.new.cache.capacity ≡ self.old.cache.capacity }
+        ensures store { self.new.store ≡ self.old.store }
+        ensures sound { IsConsistent self.new }
+    {
+        let _held = self.store.held();
+        self.cache.drop_all();
+    }
+
+    /// Lends the store, for calls that may free nodes. The cache must be empty: see `forget`.
+    pub fn lend(&mut self) -> &mut Store
+        requires { self.old.cache.entries ≡ [] }
+        ensures* writes_back { sem 𝓛 (lends_store self.entry result) }
+        ensures value { result.now ≡ self.old.store }
+    {
+        &mut self.store
+    }
+
+    /// The function that is true where a variable is.
+    pub fn variable(&mut self, var: u8) -> Result<Node, StoreStop>
+        requires var { var < length self.old.store.order }
+        ensures live { IfOk result (λ n. IsLive self.new.store n.0) }
+        ensures denotes { IfOk result (λ n. function_of self.new.store n.0 ≡ variable_of var) }
+        ensures only { IfOk result (λ n. AddsOnly self.old.store self.new.store n.0) }
+        ensures refused { OnErr result (self.new.store ≡ self.old.store) }
+        ensures stop { IfErr result (StopMeans self.old.store var 0 1) }
+        ensures room { OnOk result (NoRoom self.old.store var 0 1 → ⊥) }
+        ensures extends { Extends self.old.store self.new.store }
+        ensures functions { KeepsFunctions self.old.store self.new.store }
+        ensures cache { self.new.cache ≡ self.old.cache }
+        ensures sound { IsConsistent self.new }
+    {
+        self.variable_counted::<Brand>(var, Blank::new(1))
+    }
+
+    fn variable_counted<L: Ledger>(&mut self, var: u8, blank: Blank) -> Result<Node, StoreStop>
+        requires var { var < length self.old.store.order }
+        requires name { blank.name ≡ L.name }
+        requires parts { blank.parts ≡ L.parts }
+        requires some { 0 < blank.parts }
+        ensures live { IfOk result (λ n. IsLive self.new.store n.0) }
+        ensures denotes { IfOk result (λ n. function_of self.new.store n.0 ≡ variable_of var) }
+        ensures only { IfOk result (λ n. AddsOnly self.old.store self.new.store n.0) }
+        ensures refused { OnErr result (self.new.store ≡ self.old.store) }
+        ensures stop { IfErr result (StopMeans self.old.store var 0 1) }
+        ensures room { OnOk result (NoRoom self.old.store var 0 1 → ⊥) }
+        ensures extends { Extends self.old.store self.new.store }
+        ensures functions { KeepsFunctions self.old.store self.new.store }
+        ensures cache { self.new.cache ≡ self.old.cache }
+        ensures sound { IsConsistent self.new }
+    {
+        let mut steps = Steps::<L>::new(blank);
+        let _held = self.store.held();
+        self.store.make(var, FALSE, TRUE, &mut steps)
+    }
+
+    /// The function of a node with a variable fixed.
+    ///
+    /// Takes expected time in the nodes above the variable that are met.
+    pub fn cofactor<L: Ledger>(
+        &mut self,
+        f: Node,
+        var: u8,
+        bit: bool,
+        steps: &mut Steps<L>,
+    ) -> Result<Node, StoreStop>
+        requires f { IsLive self.old.store f.0 }
+        requires var { var < length self.old.store.order }
+        ensures live { IfOk result (λ n. IsLive self.new.store n.0) }
+        ensures denotes { IfOk result (λ n. function_of self.new.store n.0 ≡ fix var bit (function_of self.old.store f.0)) }
+        ensures made { MakesOnly self.old.store self.new.store (IsPrefixOf self.old.store.order (fix var bit (function_of self.old.store f.0))) }
+        ensures stop { IfErr result (StopIs self.new.store (IsPrefixOf self.old.store.order (fix var bit (function_of self.old.store f.0)))) }
+        ensures extends { Extends self.old.store self.new.store }
+        ensures functions { KeepsFunctions self.old.store self.new.store }
+        ensures cache { self.new.cache ≡ self.old.cache }
+        ensures sound { IsConsistent self.new }
+    {
+        let _held = self.store.held();
+        self.memo.begin();
+        restrict(&mut self.store, &mut self.memo, var, bit, f.0, steps)
+    }
+
+    /// The connective of three functions by the table T: bit 4f + 2g + h of T is its value where the
+    /// functions have the values f, g and h.
+    ///
+    /// Asks the cache, then takes expected time in the triples of nodes that are met, and keeps its
+    /// answer in the cache. Takes new memory only where nodes or more results than in any call before
+    /// want it.
+    pub fn apply3<const T: u8, L: Ledger>(
+        &mut self,
+        f: Node,
+        g: Node,
+        h: Node,
+        steps: &mut Steps<L>,
+    ) -> Result<Node, StoreStop>
+        requires f { IsLive self.old.store f.0 }
+        requires g { IsLive self.old.store g.0 }
+        requires h { IsLive self.old.store h.0 }
+        ensures live { IfOk result (λ n. IsLive self.new.store n.0) }
+        ensures denotes { IfOk result (λ n. function_of self.new.store n.0 ≡ connective_of T self.old.store f.0 g.0 h.0) }
+        ensures made { MakesOnly self.old.store self.new.store (IsPrefixOf self.old.store.order (connective_of T self.old.store f.0 g.0 h.0)) }
+        ensures stop { IfErr result (StopIs self.new.store (IsPrefixOf self.old.store.order (connective_of T self.old.store f.0 g.0 h.0))) }
+        ensures extends { Extends self.old.store self.new.store }
+        ensures functions { KeepsFunctions self.old.store self.new.store }
+        ensures first { IfOk result (λ n. take 1 self.new.cache.entries ≡ (key_of T f.0 g.0 h.0, n.0) ∷ []) }
+        ensures hit { IfSome (value_at self.old.cache.entries (key_of T f.0 g.0 h.0)) (λ n. IsHit self.old self.new n result × (steps.new ≡ steps.old)) }
+        ensures capacity { self.new.cache.capacity ≡ self.old.cache.capacity }
+        ensures sound { IsConsistent self.new }
+    {
+        let _held = self.store.held();
+        let key = Key {
+            table: T,
+            f: f.0,
+            g: g.0,
+            h: h.0,
+        };
+        if let Some(node) = self.cache.look(&key) {
+            return Ok(Node(node));
+        }
+        self.memo.begin();
+        let at = Operands {
+            f: f.0,
+            g: g.0,
+            h: h.0,
+        };
+        let node = connect(&mut self.store, &mut self.memo, T, at, steps)?;
+        self.cache.keep(key, node.0)?;
+        Ok(node)
+    }
+}
