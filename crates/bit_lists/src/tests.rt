@@ -1,4 +1,4 @@
-use crate::Bits;
+use crate::{Bits, Order, Partial, bit_of, lists_by_place, order_by_place, with_bit};
 
 // The text of a list, its next one, and what a change of its first bit gives.
 #[test]
@@ -42,4 +42,34 @@ fn the_ends_of_lists(rt: HostRuntime) {
         assert!(rt; !ones.get(127));
         assert!(rt; ones.next_lex().is_some());
     }
+}
+
+// 10 stands at place 2 of the lists of two bits, 11 at place 3.
+#[test]
+fn places_of_lists(rt: HostRuntime) {
+    assert!(rt; bit_of(2, 2, 0));
+    assert!(rt; !bit_of(2, 2, 1));
+    assert_eq!(rt; with_bit(2, 2, 1, true), 3);
+    assert_eq!(rt; with_bit(2, 2, 0, false), 0);
+    lists_by_place();
+    order_by_place();
+}
+
+#[test]
+fn partial_lists_and_orders(rt: HostRuntime) {
+    let mut partial = Partial::free(2);
+    partial.fix(1, Some(true));
+    assert_eq!(rt; partial.get(0), None);
+    assert_eq!(rt; partial.get(1), Some(true));
+    let mut x = Bits::zeros(2);
+    assert!(rt; !partial.agrees(&x));
+    x.set(1, true);
+    assert!(rt; partial.agrees(&x));
+    let mut order = Order::natural(3);
+    order.exchange(1);
+    assert_eq!(rt; order.len(), 3);
+    assert_eq!(rt; order.at(1), 2);
+    assert_eq!(rt; order.at(2), 1);
+    assert_eq!(rt; order.place_of(2), 1);
+    assert_eq!(rt; order.place_of(0), 0);
 }

@@ -1,5 +1,6 @@
 use crate::{Cause, Ended, end, one_cause, one_output, one_plain_reading, run, small_outputs};
 use bit_lists::OutOfMemory;
+use circuit_model::product_by_last_gate;
 use outside::{MemoryShelf, MemorySink, Named};
 use std::alloc::Global;
 
@@ -293,6 +294,7 @@ fn ends_and_laws(rt: HostRuntime) -> Result<(), OutOfMemory> {
     one_cause();
     one_output();
     one_plain_reading();
+    product_by_last_gate();
     small_outputs();
     Ok(())
 }
