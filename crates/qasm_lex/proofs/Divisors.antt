@@ -1,9 +1,10 @@
 -- Greatest common divisors: what Euclid's remainders give is the greatest number that divides both.
-use Rattle.std.proofs.Common.{◌≡◌, sym, ap, refl, ◌≤◌, ◌<◌, inl, inr, ℕ, zero, suc, ◌*◌, ◌/◌, ◌%◌, Bool, true, false, cond, ◌&&◌, nat_eq, arith, subst}
+use Rattle.std.proofs.Common.{◌≡◌, ◌∙◌, sym, ap, refl, ◌≤◌, ◌<◌, inl, inr, ℕ, zero, suc, ◌+◌, ◌*◌, ◌/◌, ◌%◌, Bool, true, false, cond, ◌&&◌, nat_eq, arith, subst}
 use Rattle.std.specs.Int.{IsGcd}
-use Rattle.std.proofs.Math.Nat.{pos_of_dvd_of_pos, div-mul_cancel, mul-dvd-mul_right, dvd_of_mul-dvd-mul_right, one-dvd, eq-or-lt_of_le}
+use Rattle.std.proofs.Math.Nat.{pos_of_dvd_of_pos, div-mul_cancel, mul-dvd-mul_right, dvd_of_mul-dvd-mul_right, one-dvd, eq-or-lt_of_le, mul_comm, mul_assoc, add-mul, zero-mul, mul-pos, mul-lt-mul_of_pos_right, dvd-mul_left, dvd-mul_right, eq_of_mul-eq-mul_right}
+use Rattle.std.proofs.lemmas.Nat.{mod-mul-add}
 use Prim.Native.Nat.{◌∣◌}
-use Rattle.std.proofs.lemmas.Nat.Gcd.{IsGcd-from_zero, IsGcd-from_mod, IsGcd-swap, le_from_IsGcd, dvd_of_mod-eq-zero, mod-eq-zero_of_dvd, le_of_dvd}
+use Rattle.std.proofs.lemmas.Nat.Gcd.{IsGcd-from_zero, IsGcd-from_mod, IsGcd-swap, same_from_IsGcd, le_from_IsGcd, dvd_antisymm, dvd_of_mod-eq-zero, mod-eq-zero_of_dvd, le_of_dvd}
 use Rattle.std.proofs.lemmas.Bool.{eqb-true, eq-eqb, and_parts, cases_eq}
 use Rattle.qasm_lex.specs.Fractions.{greatest_up_to, greatest_divisor}
 
@@ -95,3 +96,60 @@ pub greatest_divisor-lowest : (a b : ℕ) → 0 < b → greatest_divisor (a / gr
 greatest_divisor-lowest a b p =
     let g = greatest_divisor-gcd a b p in
     greatest_divisor-is _ _ 1 (divided_some b (greatest_divisor a b) p g.1) (coprime a b (greatest_divisor a b) (greatest_divisor-some a b p) g)
+
+-- a remainder of multiples of k is the multiple of the remainder
+mod_times : (a b k : ℕ) → 0 < b → 0 < k → a * k % (b * k) ≡ a % b * k
+mod_times a b k p q =
+    let e : a ≡ a / b * b + a % b = omega arith in
+    let lt : a % b < b = omega arith in
+    let f : a * k ≡ a / b * (b * k) + a % b * k = ap (λ x. x * k) e ∙ add-mul (a / b * b) (a % b) k ∙ ap (λ x. x + a % b * k) (mul_assoc (a / b) b k) in
+    ap (λ x. x % (b * k)) f ∙ mod-mul-add (a / b) (b * k) (a % b * k) (mul-lt-mul_of_pos_right lt q)
+
+gcd_times : (n a b k : ℕ) → b ≤ n → 0 < k → (g : ℕ) × IsGcd a b g × IsGcd (a * k) (b * k) (g * k)
+gcd_times zero a b k h p =
+    let z : b ≡ 0 = omega arith in
+    (a, IsGcd-from_zero a b z, IsGcd-from_zero (a * k) (b * k) (ap (λ x. x * k) z ∙ zero-mul k))
+gcd_times (suc n) a b k h p =
+    elim (cases_eq b 0) [
+      | inl z ↦ (a, IsGcd-from_zero a b z, IsGcd-from_zero (a * k) (b * k) (ap (λ x. x * k) z ∙ zero-mul k))
+      | inr nz ↦
+          let lt : a % b < b = omega arith in
+          let r = gcd_times n b (a % b) k (omega arith) p in
+          (r.0, IsGcd-from_mod a b r.0 r.1, IsGcd-from_mod (a * k) (b * k) (r.0 * k) (subst (λ x. IsGcd (b * k) x (r.0 * k)) (sym (mod_times a b k (omega arith) p)) r.2))
+    ]
+
+-- what divides a product and has nothing in common with one factor divides the other
+coprime_divides : (a b d : ℕ) → 0 < d → IsGcd a b 1 → b ∣ a * d → b ∣ d
+coprime_divides a b d p h q =
+    let r = gcd_times b a b d (omega arith) p in
+    let one : r.0 ≡ 1 = same_from_IsGcd a b r.0 1 r.1 h in
+    let g : b ∣ r.0 * d = (r.2).2 b q (dvd-mul_right b d) in
+    subst (λ x. b ∣ x) (ap (λ x. x * d) one ∙ omega arith) g
+
+-- a fraction has one form in lowest terms
+lowest_unique : (a b c d : ℕ) → 0 < b → 0 < d → IsGcd a b 1 → IsGcd c d 1 → a * d ≡ c * b → (a ≡ c) × (b ≡ d)
+lowest_unique a b c d p q g h e =
+    let over : b ∣ d = coprime_divides a b d q g (subst (λ x. b ∣ x) (sym e) (dvd-mul_left b c)) in
+    let back : d ∣ b = coprime_divides c d b p h (subst (λ x. d ∣ x) e (dvd-mul_left d a)) in
+    let same : b ≡ d = dvd_antisymm over back in
+    (eq_of_mul-eq-mul_right d q a c (e ∙ ap (λ x. c * x) same), same)
+
+crossing : (a g e h : ℕ) → a * g * (e * h) ≡ a * e * (g * h)
+crossing a g e h =
+    mul_assoc a g (e * h) ∙ ap (λ x. a * x) (sym (mul_assoc g e h) ∙ ap (λ x. x * h) (mul_comm g e) ∙ mul_assoc e g h) ∙ sym (mul_assoc a e (g * h))
+
+-- fractions of one value have the same lowest terms
+pub lowest_of_equal : (a d b e : ℕ) → 0 < d → 0 < e → a * e ≡ b * d
+    → (a / greatest_divisor a d ≡ b / greatest_divisor b e) × (d / greatest_divisor a d ≡ e / greatest_divisor b e)
+lowest_of_equal a d b e p q s =
+    let g = greatest_divisor a d in
+    let h = greatest_divisor b e in
+    let gd = greatest_divisor-gcd a d p in
+    let hd = greatest_divisor-gcd b e q in
+    let gp = greatest_divisor-some a d p in
+    let hp = greatest_divisor-some b e q in
+    let left : a / g * (e / h) * (g * h) ≡ a * e = sym (crossing (a / g) g (e / h) h) ∙ ap (λ x. x * (e / h * h)) (div-mul_cancel g gd.0) ∙ ap (λ x. a * x) (div-mul_cancel h hd.1) in
+    let right : b / h * (d / g) * (h * g) ≡ b * d = sym (crossing (b / h) h (d / g) g) ∙ ap (λ x. x * (d / g * g)) (div-mul_cancel h hd.0) ∙ ap (λ x. b * x) (div-mul_cancel g gd.1) in
+    let both : a / g * (e / h) * (g * h) ≡ b / h * (d / g) * (g * h) = left ∙ s ∙ sym right ∙ ap (λ x. b / h * (d / g) * x) (mul_comm h g) in
+    lowest_unique (a / g) (d / g) (b / h) (e / h) (divided_some d g p gd.1) (divided_some e h q hd.1) (coprime a d g gp gd) (coprime b e h hp hd)
+    (eq_of_mul-eq-mul_right (g * h) (mul-pos gp hp) (a / g * (e / h)) (b / h * (d / g)) both)

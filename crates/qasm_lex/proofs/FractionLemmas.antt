@@ -7,8 +7,8 @@ use Rattle.std.proofs.Math.Nat.{mul-pos, mul_comm, mul_assoc, zero-mul, div-mul_
 use Rattle.std.proofs.Math.IntN.{pos-*ℤ-pos, negsuc-*ℤ-pos}
 use Rattle.std.specs.Int.{IsGcd}
 use Prim.Native.Nat.{◌∣◌}
-use Rattle.qasm_lex.specs.Fractions.{greatest_divisor, lowest, IsReduced, most}
-use Rattle.qasm_lex.proofs.Divisors.{greatest_divisor-gcd, greatest_divisor-lowest, greatest_divisor-swap, greatest_divisor-one, divided_some}
+use Rattle.qasm_lex.specs.Fractions.{Ratio, greatest_divisor, lowest, IsReduced, most}
+use Rattle.qasm_lex.proofs.Divisors.{greatest_divisor-gcd, greatest_divisor-lowest, greatest_divisor-swap, greatest_divisor-one, divided_some, lowest_of_equal}
 
 unsigned_abs-neg : (n : ℕ) → unsigned_abs (neg_ℤ (pos n)) ≡ n
 unsigned_abs-neg zero = refl
@@ -143,3 +143,32 @@ lowest_gcd n d h =
     let b = unsigned_abs (int_div d (pos (greatest_divisor (unsigned_abs n) (unsigned_abs d)))) in
     let p = positive_abs (int_div d (pos (greatest_divisor (unsigned_abs n) (unsigned_abs d)))) (lowest_positive n d h) in
     subst (λ g. IsGcd a b g) (lowest_coprime n d h) (greatest_divisor-gcd a b p)
+
+no_opposite : (x y : ℕ) → 0 < y → pos x ≡ neg_ℤ (pos y) → ⊥
+no_opposite x zero p e = absurd (omega arith)
+no_opposite x (suc y) p e = absurd cc
+
+opposite_same : (x y : ℕ) → neg_ℤ (pos x) ≡ neg_ℤ (pos y) → x ≡ y
+opposite_same x y e = sym (unsigned_abs-neg x) ∙ ap unsigned_abs e ∙ unsigned_abs-neg y
+
+natural_same : (x y : ℕ) → pos x ≡ pos y → x ≡ y
+natural_same x y e = cc
+
+parts_same : (f : ℕ → ℤ) (p q r s : ℕ) → (p ≡ q) × (r ≡ s) → ◌≡◌ {A = Ratio} (record { num = f p; den = pos r }) (record { num = f q; den = pos s })
+parts_same f p q r s e = ap {B = Ratio} (λ x. record { num = f x; den = pos r }) e.0 ∙ ap {B = Ratio} (λ x. record { num = f q; den = pos x }) e.1
+
+-- fractions of one value have the same lowest terms
+pub lowest_same : (n d m e : ℤ) → pos 1 ≤ℤ d → pos 1 ≤ℤ e → n *ℤ e ≡ m *ℤ d → lowest n d ≡ lowest m e
+unfolding lowest
+lowest_same n (negsuc d) m e p q s = absurd (omega (arith, ints))
+lowest_same n (pos d) m (negsuc e) p q s = absurd (omega (arith, ints))
+lowest_same (pos a) (pos d) (pos b) (pos e) p q s =
+    parts_same pos (a / greatest_divisor a d) (b / greatest_divisor b e) (d / greatest_divisor a d) (e / greatest_divisor b e)
+    (lowest_of_equal a d b e (positive_abs (pos d) p) (positive_abs (pos e) q) (natural_same (a * e) (b * d) (sym (pos-*ℤ-pos a e) ∙ s ∙ pos-*ℤ-pos b d)))
+lowest_same (negsuc a) (pos d) (negsuc b) (pos e) p q s =
+    parts_same (λ x. neg_ℤ (pos x)) (suc a / greatest_divisor (suc a) d) (suc b / greatest_divisor (suc b) e) (d / greatest_divisor (suc a) d) (e / greatest_divisor (suc b) e)
+    (lowest_of_equal (suc a) d (suc b) e (positive_abs (pos d) p) (positive_abs (pos e) q) (opposite_same (suc a * e) (suc b * d) (sym (negsuc-*ℤ-pos a e) ∙ s ∙ negsuc-*ℤ-pos b d)))
+lowest_same (pos a) (pos d) (negsuc b) (pos e) p q s =
+    absurd (no_opposite (a * e) (suc b * d) (mul-pos (omega arith) (positive_abs (pos d) p)) (sym (pos-*ℤ-pos a e) ∙ s ∙ negsuc-*ℤ-pos b d))
+lowest_same (negsuc a) (pos d) (pos b) (pos e) p q s =
+    absurd (no_opposite (b * d) (suc a * e) (mul-pos (omega arith) (positive_abs (pos e) q)) (sym (pos-*ℤ-pos b d) ∙ sym s ∙ negsuc-*ℤ-pos a e))

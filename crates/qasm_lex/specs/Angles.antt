@@ -26,6 +26,7 @@ pub data IsAnswer (symbols : List Symbol) (answer : Result Ratio AngleRefusal) :
   malformed : length symbols ≤ 64 → ((tree : Tree) → IsExpression symbols tree → ⊥) → answer ≡ Err Malformed → IsAnswer symbols answer
   evaluated : length symbols ≤ 64 → (tree : Tree) → IsExpression symbols tree → answer ≡ multiple_of (eval values tree) → IsAnswer symbols answer
 
+-- the fraction by its numbers
 abbrev pub ratio_of : PiFraction → Ratio
 ratio_of f = record { num = f.num; den = f.den }
 

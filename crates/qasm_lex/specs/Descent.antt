@@ -19,13 +19,16 @@ pub data Goal (X : Type 0) : Type 0 where
   raise : X → Goal X
   atom : Goal X
 
+-- what was read, and the rest; or that nothing of the shape stands there
 abbrev pub Found : Type 0 → Type 0
 Found X = Option (X × List Symbol)
 
+-- go on after what was read
 abbrev pub next : {X : Type 0} → Found X → (X → List Symbol → Found X) → Found X
 next None f = None
 next (Some p) f = f p.0 p.1
 
+-- a closing parenthesis after a value
 abbrev pub close : {X : Type 0} → X → List Symbol → Found X
 close v (Close ∷ s) = Some (v, s)
 close v _ = None
@@ -69,9 +72,11 @@ bound power = 2
 bound (raise v) = 1
 bound atom = 1
 
+-- the descent, as deep as it goes
 unfoldable pub parsed : Goal Outcome → List Symbol → Found Outcome
 parsed g s = parse values (8 * length s + bound g) g s
 
+-- the value where the rest is empty
 abbrev pub ended : List Symbol → Outcome → Option Outcome
 ended [] v = Some v
 ended (c ∷ s) v = None

@@ -23,6 +23,7 @@ lowest n d =
     let common = pos (greatest_divisor (unsigned_abs n) (unsigned_abs d)) in
     record { num = int_div n common; den = int_div d common }
 
+-- the greatest size of a part
 abbrev pub most : ℕ
 most = 9223372036854775807
 
@@ -45,12 +46,15 @@ pub record IsReduced (num den : ℤ) : Type 0 where
   pub den_narrow : unsigned_abs den ≤ most
   pub lowest_terms : greatest_divisor (unsigned_abs num) (unsigned_abs den) ≡ 1
 
+-- a whole number
 abbrev pub whole_ratio : ℤ → Ratio
 whole_ratio n = record { num = n; den = pos 1 }
 
+-- whether it is 0
 abbrev pub is_zero : Ratio → Bool
 is_zero q = nat_eq (unsigned_abs q.num) 0
 
+-- its negative
 abbrev pub negative_ratio : Ratio → Ratio
 negative_ratio q = record { num = neg_ℤ q.num; den = q.den }
 
@@ -63,8 +67,10 @@ with_sign_of (negsuc n) d = neg_ℤ d
 abbrev pub reciprocal : Ratio → Ratio
 reciprocal q = record { num = with_sign_of q.num q.den; den = pos (unsigned_abs q.num) }
 
+-- the sum, over the product of the denominators
 abbrev pub ratio_sum : Ratio → Ratio → Result Ratio AngleRefusal
 ratio_sum p q = fraction ((p.num *ℤ q.den) +ℤ (q.num *ℤ p.den)) (p.den *ℤ q.den)
 
+-- the product
 abbrev pub ratio_product : Ratio → Ratio → Result Ratio AngleRefusal
 ratio_product p q = fraction (p.num *ℤ q.num) (p.den *ℤ q.den)

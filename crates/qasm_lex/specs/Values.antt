@@ -6,9 +6,11 @@ use Rattle.qasm_lex.specs.declared.refusal.AngleRefusal.TheVariants.{NotExact, Z
 use Rattle.qasm_lex.specs.Fractions.{Ratio, most, whole_ratio, is_zero, negative_ratio, reciprocal, ratio_sum, ratio_product}
 use Rattle.qasm_lex.specs.Expressions.{Algebra}
 
+-- a value, or the refusal that was met first
 abbrev pub Outcome : Type 0
 Outcome = Result Value AngleRefusal
 
+-- go on with a value
 abbrev pub then : Outcome → (Value → Outcome) → Outcome
 then (Ok x) f = f x
 then (Err e) f = Err e
@@ -23,21 +25,27 @@ value_of (Ok u) (Ok v) = Ok (record { u = u; v = v })
 value_of (Ok u) (Err e) = Err e
 value_of (Err e) v = Err e
 
+-- a whole number
 abbrev pub whole_value : ℤ → Value
 whole_value n = record { u = whole_ratio n; v = whole_ratio (pos 0) }
 
+-- π
 abbrev pub pi_value : Value
 pi_value = record { u = whole_ratio (pos 0); v = whole_ratio (pos 1) }
 
+-- its negative
 abbrev pub negative_value : Value → Value
 negative_value x = record { u = negative_ratio x.u; v = negative_ratio x.v }
 
+-- the sum, part by part
 unfoldable pub value_sum : Value → Value → Outcome
 value_sum x y = value_of (ratio_sum x.u y.u) (ratio_sum x.v y.v)
 
+-- the sum with the negative
 unfoldable pub value_difference : Value → Value → Outcome
 value_difference x y = value_sum x (negative_value y)
 
+-- a value times a fraction
 unfoldable pub scaled : Value → Ratio → Outcome
 scaled x q = value_of (ratio_product x.u q) (ratio_product x.v q)
 
@@ -54,6 +62,7 @@ abbrev pub number_of : Option ℤ → Outcome
 number_of None = Err TooWide
 number_of (Some n) = cond (nat_le (unsigned_abs n) most) (Ok (whole_value n)) (Err TooWide)
 
+-- what expressions stand for: functions, powers and decimal numbers are never exact, but their operands are refused first
 abbrev pub values : Algebra Outcome
 values = record {
   of_whole = number_of;

@@ -35,3 +35,8 @@ pub fn lowest_terms()
     ensures positive { (n d : ℤ) → pos 1 ≤ℤ d → pos 1 ≤ℤ (lowest n d).den }
     ensures lowest { (n d : ℤ) → pos 1 ≤ℤ d → IsGcd (unsigned_abs (lowest n d).num) (unsigned_abs (lowest n d).den) 1 }
 {}
+
+/// Fractions of one value have the same lowest terms.
+pub fn lowest_terms_are_unique()
+    ensures { (n d m e : ℤ) → pos 1 ≤ℤ d → pos 1 ≤ℤ e → n *ℤ e ≡ m *ℤ d → lowest n d ≡ lowest m e }
+{}

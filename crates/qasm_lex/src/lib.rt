@@ -25,8 +25,8 @@ mod value;
 
 pub use angles::angle;
 pub use laws::{
-    every_text_has_tokens, expressions_are_unambiguous, lowest_terms, slashes_begin_a_comment,
-    tokens_are_unique,
+    every_text_has_tokens, expressions_are_unambiguous, lowest_terms, lowest_terms_are_unique,
+    slashes_begin_a_comment, tokens_are_unique,
 };
 pub use pi_fraction::PiFraction;
 pub use quarters::quarter;

@@ -9,7 +9,6 @@ use bit_lists::OutOfMemory;
 use std::alloc::Global;
 
 /// The piece at the place: its form and its length.
-
 fn front(text: &[u8], place: usize) -> Option<(Form, usize)>
     requires { (place ≤ length text.now) × (length text.now ≤ 16777216) }
     ensures none { IfNone result (BeginsNone (drop place text.now)) }

@@ -2,9 +2,7 @@
 ghost use Rattle.std.specs.Prelude.{◌≡◌, ◌≤◌, length, slice_range};
 ghost use Rattle.qasm_lex.specs.Lexemes.{Spells, lexeme};
 ghost use Rattle.qasm_lex.specs.declared.pieces.Form.TheVariants.{Token as OfKind};
-ghost use Rattle.std.specs.List.{list_any};
-ghost use Rattle.std.specs.Str.{bytes_eq};
-ghost use Rattle.qasm_lex.specs.Symbols.{functions, word_symbol, mark_symbol, symbol_of};
+ghost use Rattle.qasm_lex.specs.Symbols.{is_function, word_symbol, mark_symbol, symbol_of};
 
 use crate::number::decimal;
 use crate::token::{Token, TokenKind};
@@ -31,13 +29,14 @@ pub enum Symbol {
 }
 
 fn is_function(word: &[u8]) -> bool
-    ensures { result ≡ list_any (bytes_eq word.now) functions }
+    ensures { result ≡ is_function word.now }
 {
     word == b"sin".as_slice()
-        || (word == b"cos".as_slice()
-            || (word == b"tan".as_slice()
-                || (word == b"exp".as_slice()
-                    || (word == b"ln".as_slice() || (word == b"sqrt".as_slice() || false)))))
+        || word == b"cos".as_slice()
+        || word == b"tan".as_slice()
+        || word == b"exp".as_slice()
+        || word == b"ln".as_slice()
+        || word == b"sqrt".as_slice()
 }
 
 #[tactic(auto, unfolding(crate::specs::Symbols::word_symbol))]
