@@ -1,9 +1,9 @@
 -- The entries of a cache against those of the list under it.
-use Rattle.std.proofs.Common.{◌≡◌, ◌≢◌, ℕ, ◌-◌, Bool, true, false, cond, eqb, ◌&&◌, List, [], ◌∷◌, take, Option, Some, None, is_some, inl, inr, refl, sym, ◌∙◌, ap}
-use Rattle.std.specs.Map.{lookup, lookup_entry, remove_entry}
+use Rattle.std.proofs.Common.{◌≡◌, ℕ, ◌-◌, true, cond, eqb, ◌&&◌, List, [], ◌∷◌, take, Option, Some, None, is_some, inl, inr, refl, sym, ◌∙◌, ap}
+use Rattle.std.specs.Map.{lookup_entry}
 use Rattle.std.specs.Option.{option_map, option_map_or}
 use Rattle.std.proofs.lemmas.Bool.{cases_Bool, cond-true, cond-false, eqb-true, and_parts}
-use Rattle.lru.specs.LruCache.{promoted, put_entries, LruCache, lru_cache}
+use Rattle.lru.specs.LruCache.{promoted, put_entries, lru_cache}
 use Rattle.computed_cache.specs.declared.key.Key.{Key}
 use Rattle.computed_cache.specs.Entries.{same_key, value_at, without, touched, kept}
 

@@ -1,5 +1,5 @@
 -- What a cache holds: a list of keys with values, most recently used first.
-use Rattle.std.specs.Prelude.{◌≡◌, ℕ, Bool, cond, ◌-◌, ◌&&◌, ◌==◌, List, [], ◌∷◌, take, Option, Some, None, is_some}
+use Rattle.std.specs.Prelude.{ℕ, Bool, cond, ◌-◌, ◌&&◌, ◌==◌, List, ◌∷◌, take, Option, is_some}
 use Rattle.std.specs.Map.{lookup, remove_entry}
 use Rattle.std.specs.Option.{option_map_or}
 use Rattle.computed_cache.specs.declared.key.Key.{Key}

@@ -1,16 +1,16 @@
 -- The size counts the functions that arise by fixing a prefix and depend on the next variable.
-use Rattle.std.proofs.Common.{◌≡◌, ◌≢◌, ◌⊎◌, ℕ, zero, suc, ◌+◌, ◌-◌, ◌*◌, ◌^◌, ◌<◌, ◌≤◌, Bool, true, false, not, cond, eqb, ◌&&◌, ◌||◌, List, [], ◌∷◌, ◌++◌, map, filter, length, set, get_or, inl, inr, refl, sym, ◌∙◌, ap, subst, arith, eq-eqb, length-append}
+use Rattle.std.proofs.Common.{◌≡◌, ◌⊎◌, ℕ, zero, suc, ◌+◌, ◌-◌, ◌*◌, ◌^◌, ◌<◌, ◌≤◌, Bool, true, false, not, eqb, List, [], ◌∷◌, ◌++◌, map, filter, length, set, inl, inr, refl, sym, ◌∙◌, ap, subst, arith, eq-eqb, length-append}
 use Rattle.std.specs.Set.{distinct_count, unique_keys, is_member}
 use Rattle.std.proofs.Math.Nat.{pow-suc}
 use Rattle.std.proofs.Math.Pow.{pow_mono}
-use Rattle.std.proofs.lemmas.Bool.{cases_eq, cases_Bool, eqb-true, cond-true, cond-false, ne_eqb, false≢true, or_cases, or_left, or_right, and_parts}
+use Rattle.std.proofs.lemmas.Bool.{cases_eq, cases_Bool, cond-true, cond-false, ne_eqb, false≢true, or_cases, or_left, or_right, and_parts}
 use Rattle.std.proofs.lemmas.List.{length-map, get_or-set_same, get_or-set_other, length-set}
 use Rattle.std.proofs.lemmas.Map.Made.{distinct_count-le}
 use mathlib.Core.Path.{fun_ext}
 use Rattle.bit_lists.specs.Lists.{all_lists}
 use Rattle.bit_lists.specs.Orders.{has, AreVars}
 use Rattle.diagram_model.specs.Bryant.{IsCountedFrom, IsOneOf, IsCounted, IsIn, AreDifferent, IsNumberOf}
-use Rattle.diagram_model.specs.Functions.{Assignment, Function, bit, put, fix}
+use Rattle.diagram_model.specs.Functions.{Function, bit, put, fix}
 use Rattle.diagram_model.specs.Size.{truths, same_bool, same_truths, depends, fix_both, level_size, size}
 use Rattle.diagram_model.proofs.Canonical.{has_not-parts}
 use Rattle.diagram_model.proofs.Prefixes.{Ignores, fix_twice, ignores_fix}

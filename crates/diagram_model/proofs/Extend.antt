@@ -1,11 +1,11 @@
 -- What adding a node keeps.
-use Rattle.std.proofs.Common.{◌≡◌, ◌≢◌, ◌⊎◌, ℕ, ◌+◌, ◌<◌, ◌≤◌, Bool, true, false, cond, eqb, List, [], ◌∷◌, length, Option, Some, None, get_or, set, inl, inr, refl, sym, ◌∙◌, ap, arith, eq-eqb}
-use Rattle.std.proofs.lemmas.Bool.{cases_eq, eqb-true, eqb-false, cond-true, cond-false, ne_eqb, false≢true, cases_Bool}
+use Rattle.std.proofs.Common.{◌≡◌, ◌≢◌, ℕ, ◌<◌, ◌≤◌, Bool, true, eqb, List, [], ◌∷◌, length, Option, Some, None, inl, inr, refl, sym, ◌∙◌, ap, arith}
+use Rattle.std.proofs.lemmas.Bool.{cases_eq}
 use Rattle.bit_lists.specs.Orders.{has, after, AreVars}
 use Rattle.diagram_model.specs.Nodes.{parts_of, follow_parts, follow, walk, value, IsLiveIn, IsProper, AreProper, IsDiagram}
 use Rattle.diagram_model.specs.Stores.{Diagram, IsLive, IsSound, Extends, PutsNode}
 use Rattle.diagram_model.specs.declared.parts.Parts.{Parts}
-use Rattle.diagram_model.proofs.Canonical.{HasVar, LacksVar, cases_var, some_same, follow-at, follow-other, live-follow, proper-tail}
+use Rattle.diagram_model.proofs.Canonical.{some_same, follow-other, live-follow, proper-tail}
 use Rattle.diagram_model.proofs.Values.{none_some}
 
 -- each node of s is in t with its parts

@@ -1,5 +1,5 @@
 -- What stays of nodes once others are added.
-use Rattle.std.proofs.Common.{◌≡◌, ◌≢◌, ◌⊎◌, ℕ, zero, suc, ◌+◌, ◌<◌, ◌≤◌, Bool, true, false, cond, eqb, List, [], ◌∷◌, length, Option, Some, None, inl, inr, refl, sym, ◌∙◌, ap, arith, eq-eqb}
+use Rattle.std.proofs.Common.{◌≡◌, ℕ, ◌+◌, ◌<◌, ◌≤◌, Bool, true, List, length, Some, inl, inr, refl, sym, ◌∙◌, ap, arith}
 use mathlib.Core.Path.{fun_ext}
 use Rattle.bit_lists.specs.Orders.{has, after}
 use Rattle.diagram_model.proofs.Canonical.{some_same}

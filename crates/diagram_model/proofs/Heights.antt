@@ -1,12 +1,12 @@
 -- How high a node stands, and what stands below.
-use Rattle.std.proofs.Common.{◌≡◌, ◌≢◌, ◌⊎◌, ℕ, zero, suc, ◌+◌, ◌<◌, ◌≤◌, Bool, true, false, cond, eqb, List, [], ◌∷◌, length, Option, Some, None, get_or, ◌-◌, max, inl, inr, refl, sym, ◌∙◌, ap, arith, eq-eqb}
-use Rattle.std.proofs.lemmas.Bool.{cases_eq, eqb-true, eqb-false, cond-true, cond-false, ne_eqb, false≢true, cases_Bool}
+use Rattle.std.proofs.Common.{◌≡◌, ◌≢◌, ◌⊎◌, ℕ, zero, suc, ◌+◌, ◌<◌, ◌≤◌, Bool, true, false, eqb, List, [], ◌∷◌, length, Option, Some, None, get_or, ◌-◌, max, inl, inr, refl, sym, ◌∙◌, ap, arith, eq-eqb}
+use Rattle.std.proofs.lemmas.Bool.{cases_eq, cond-true, cond-false, ne_eqb, false≢true}
 use Rattle.bit_lists.specs.KeptOrders.{has-here, has-head, has-tail}
 use Rattle.bit_lists.specs.Orders.{has, after, place_in}
 use Rattle.diagram_model.specs.Nodes.{parts_of, child, follow, IsLiveIn}
 use Rattle.diagram_model.specs.Stores.{Diagram, IsLive, IsSound, IsTop, HasVariable, from, depth, depth_of}
 use Rattle.diagram_model.specs.declared.parts.Parts.{Parts}
-use Rattle.diagram_model.proofs.Canonical.{LacksVar, some_same, follow-at, follow-other, after-head, after-tail}
+use Rattle.diagram_model.proofs.Canonical.{some_same, follow-at, follow-other, after-head, after-tail}
 use Rattle.diagram_model.proofs.Values.{length-after, none_some}
 
 pub first_at : (vs : List ℕ) (v i : ℕ) → i < length vs → get_or vs i 0 ≡ v → ((k : ℕ) → k < i → get_or vs k 0 ≢ v) → length vs ≡ 1 + length (after vs v) + i

@@ -1,5 +1,5 @@
 -- The equation of a held node's value.
-use Rattle.std.proofs.Common.{◌≡◌, ℕ, Bool, true, false, cond, refl}
+use Rattle.std.proofs.Common.{◌≡◌, Bool, true, false, cond, refl}
 use Rattle.diagram_model.specs.Functions.{Assignment}
 use Rattle.diagram_model.specs.Nodes.{value, child}
 use Rattle.diagram_model.specs.Stores.{Diagram}

@@ -1,11 +1,10 @@
 -- Fixing the variables of prefixes, one after another.
-use Rattle.std.proofs.Common.{◌≡◌, ◌≢◌, ◌⊎◌, ℕ, zero, suc, ◌+◌, ◌<◌, ◌≤◌, Bool, true, false, cond, eqb, List, [], ◌∷◌, length, Option, Some, None, inl, inr, refl, sym, ◌∙◌, ap, arith, eq-eqb}
+use Rattle.std.proofs.Common.{◌≡◌, ◌≢◌, ℕ, Bool, true, false, cond, eqb, List, [], ◌∷◌, inl, inr, refl, sym, ◌∙◌, ap, eq-eqb}
 use Rattle.std.proofs.lemmas.Bool.{cases_eq, cond-true, cond-false, ne_eqb, false≢true, cases_Bool}
 use mathlib.Core.Path.{fun_ext}
 use Rattle.bit_lists.specs.KeptOrders.{has-tail}
 use Rattle.bit_lists.specs.Orders.{has, after}
 use Rattle.diagram_model.specs.Functions.{Function, put, fix, IsPrefixOf}
-use Rattle.diagram_model.specs.Stores.{from}
 
 -- f doesn't read u
 abbrev pub Ignores : Function → ℕ → Type 0

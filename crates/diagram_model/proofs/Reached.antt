@@ -1,15 +1,15 @@
 -- The size of the functions of nodes is the number of held nodes that are reached from them.
-use Rattle.std.proofs.Common.{◌≡◌, ◌≢◌, ◌⊎◌, ℕ, zero, suc, ◌+◌, ◌<◌, ◌≤◌, Bool, true, false, not, cond, eqb, List, [], ◌∷◌, ◌++◌, map, filter, length, Option, Some, None, inl, inr, refl, sym, ◌∙◌, ap, arith, eq-eqb}
+use Rattle.std.proofs.Common.{◌≡◌, ℕ, ◌+◌, ◌<◌, Bool, true, false, eqb, List, [], ◌∷◌, ◌++◌, map, filter, length, Option, Some, None, inl, inr, refl, sym, ◌∙◌, ap, arith, eq-eqb}
 use Rattle.std.specs.Prelude.{◌||◌}
-use Rattle.std.specs.Set.{distinct_count, unique_keys, is_member}
-use Rattle.std.proofs.lemmas.Bool.{cases_eq, eqb-true, cond-true, cond-false, ne_eqb, false≢true, cases_Bool, or_cases, or_left, or_right, or_parts, or_from}
+use Rattle.std.specs.Set.{distinct_count, unique_keys}
+use Rattle.std.proofs.lemmas.Bool.{cases_eq, eqb-true, cond-true, cond-false, ne_eqb, false≢true, cases_Bool, or_cases, or_left, or_right}
 use Rattle.bit_lists.specs.Orders.{has, after, AreVars}
 use Rattle.diagram_model.specs.Nodes.{parts_of, child, follow, IsLiveIn, IsDiagram, denoted}
 use Rattle.diagram_model.specs.Size.{size}
 use Rattle.diagram_model.specs.declared.parts.Parts.{Parts}
 use Rattle.diagram_model.specs.Reach.{is_in, Reaches}
 use Rattle.diagram_model.specs.Reach.Reaches.{root, step}
-use Rattle.diagram_model.proofs.Canonical.{HasVar, cases_var, some_same, follow-at, follow-other, has_not-parts, proper-tail, live-follow, live-child}
+use Rattle.diagram_model.proofs.Canonical.{cases_var, some_same, follow-at, follow-other, live-child}
 use Rattle.diagram_model.proofs.Values.{none_some}
 use Rattle.diagram_model.proofs.Sizes.{has_var, has_var_of, follow_both, node_count, Each, size_is}
 use Rattle.std.specs.List.{IsDistinct}

@@ -1,8 +1,8 @@
 -- The size of the functions of nodes is a number of nodes.
-use Rattle.std.proofs.Common.{◌≡◌, ◌≢◌, ◌⊎◌, ℕ, zero, suc, ◌+◌, ◌<◌, ◌≤◌, Bool, true, false, not, cond, eqb, List, [], ◌∷◌, ◌++◌, map, filter, length, Option, Some, None, get_or, inl, inr, refl, sym, ◌∙◌, ap, arith, eq-eqb}
+use Rattle.std.proofs.Common.{◌≡◌, ◌≢◌, ◌⊎◌, ℕ, zero, suc, ◌+◌, ◌<◌, Bool, true, false, not, eqb, List, [], ◌∷◌, ◌++◌, map, filter, length, Option, Some, None, inl, inr, refl, sym, ◌∙◌, ap, arith, eq-eqb}
 use Rattle.std.specs.Prelude.{◌&&◌, ◌||◌}
 use Rattle.std.specs.Set.{distinct_count, unique_keys, is_member}
-use Rattle.std.proofs.lemmas.Bool.{cases_eq, eqb-true, eqb-false, cond-true, cond-false, ne_eqb, false≢true, cases_Bool, and_parts}
+use Rattle.std.proofs.lemmas.Bool.{cases_eq, cond-true, cond-false, ne_eqb, cases_Bool, and_parts}
 use mathlib.Core.Path.{fun_ext}
 use Rattle.bit_lists.specs.KeptOrders.{has-here, has-head}
 use Rattle.bit_lists.specs.Lists.{all_lists}
@@ -12,7 +12,7 @@ use Rattle.diagram_model.specs.Nodes.{parts_of, follow, walk, value, IsLiveIn, A
 use Rattle.diagram_model.specs.Size.{truths, same_bool, same_truths, depends, fix_both, level_size, size}
 use Rattle.diagram_model.specs.declared.parts.Parts.{Parts}
 use Rattle.diagram_model.proofs.Values.{below-order}
-use Rattle.diagram_model.proofs.Canonical.{HasVar, LacksVar, cases_var, follow-at, follow-other, proper-tail, live-follow, value-fixed, same_node, same_from_follow, has_not-parts}
+use Rattle.diagram_model.proofs.Canonical.{cases_var, follow-at, follow-other, proper-tail, live-follow, value-fixed, same_node}
 
 -- whether a node has the variable
 abbrev pub has_var_of : ℕ → Option Parts → Bool

@@ -1,12 +1,12 @@
 -- What a node denotes, by its children.
-use Rattle.std.proofs.Common.{◌≡◌, ◌≢◌, ◌⊎◌, ℕ, ◌+◌, ◌<◌, ◌≤◌, Bool, true, false, cond, eqb, List, [], ◌∷◌, length, Option, Some, None, get_or, set, inl, inr, refl, sym, ◌∙◌, ap, arith, eq-eqb}
-use Rattle.std.proofs.lemmas.Bool.{cases_eq, eqb-true, eqb-false, cond-true, cond-false, ne_eqb, false≢true, cases_Bool}
+use Rattle.std.proofs.Common.{◌≡◌, ◌≢◌, ℕ, ◌<◌, Bool, true, false, eqb, List, [], ◌∷◌, length, Option, Some, None, inl, inr, refl, sym, ◌∙◌, ap, arith}
+use Rattle.std.proofs.lemmas.Bool.{cases_eq, eqb-true, cond-true, cond-false, false≢true, cases_Bool}
 use Rattle.bit_lists.specs.KeptOrders.{has-tail, has-head}
 use Rattle.bit_lists.specs.Orders.{has, after, AreVars}
 use Rattle.diagram_model.specs.Nodes.{parts_of, child, follow, walk, value, IsLiveIn, AreProper, IsDiagram}
 use Rattle.diagram_model.specs.Stores.{Diagram, depth_of, depth, IsLive, IsSound}
 use Rattle.diagram_model.specs.declared.parts.Parts.{Parts}
-use Rattle.diagram_model.proofs.Canonical.{HasVar, LacksVar, cases_var, some_same, follow-at, follow-other, has_not-parts, after-tail, after-head, proper-tail, live-child}
+use Rattle.diagram_model.proofs.Canonical.{LacksVar, some_same, follow-at, follow-other, after-tail, after-head, proper-tail, live-child}
 
 -- what is below w is in the list
 pub has-after : (vs : List ℕ) (w v : ℕ) → has (after vs w) v ≡ true → has vs v ≡ true

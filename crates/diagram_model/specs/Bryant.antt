@@ -1,8 +1,7 @@
 -- What the size of a list of functions counts, and its bound.
-use Rattle.std.specs.Prelude.{◌≡◌, ◌⊎◌, ℕ, ◌*◌, ◌^◌, ◌-◌, ◌≤◌, Bool, true, List, [], ◌∷◌, length}
-use Rattle.bit_lists.specs.Orders.{AreVars}
+use Rattle.std.specs.Prelude.{◌≡◌, ◌⊎◌, ℕ, Bool, true, List, [], ◌∷◌, length}
 use Rattle.diagram_model.specs.Functions.{Function, fix}
-use Rattle.diagram_model.specs.Size.{truths, depends, size}
+use Rattle.diagram_model.specs.Size.{truths, depends}
 
 -- g is f with the variables of a prefix of the order fixed, and depends on the next variable
 abbrev pub IsCountedFrom : ℕ → List ℕ → Function → Function → Type 0

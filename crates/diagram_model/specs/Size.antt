@@ -1,5 +1,5 @@
 -- How many nodes a list of functions needs in an order.
-use Rattle.std.specs.Prelude.{◌≡◌, ℕ, ◌+◌, Bool, true, false, not, cond, ◌&&◌, List, [], ◌∷◌, map, filter}
+use Rattle.std.specs.Prelude.{ℕ, ◌+◌, Bool, true, false, not, cond, ◌&&◌, List, [], ◌∷◌, map, filter}
 use Rattle.std.specs.Set.{distinct_count}
 use Rattle.bit_lists.specs.Lists.{all_lists}
 use Rattle.diagram_model.specs.Functions.{Function, fix, bit}

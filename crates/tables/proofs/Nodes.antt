@@ -1,7 +1,7 @@
 -- The places of a table of nodes.
-use Rattle.std.proofs.Common.{◌≡◌, ◌≢◌, ◌⊎◌, ℕ, zero, suc, ◌+◌, ◌-◌, ◌<◌, ◌≤◌, Bool, true, false, cond, eqb, ◌&&◌, List, [], ◌∷◌, ◌++◌, length, set, take, drop, map, replicate, Option, Some, None, inl, inr, refl, sym, ◌∙◌, ap, arith, get_or}
+use Rattle.std.proofs.Common.{◌≡◌, ◌≢◌, ◌⊎◌, ℕ, zero, suc, ◌+◌, ◌-◌, ◌<◌, ◌≤◌, Bool, true, false, cond, eqb, ◌&&◌, List, [], ◌∷◌, ◌++◌, length, set, take, drop, replicate, Some, None, inl, inr, refl, sym, ◌∙◌, ap, arith, get_or}
 use Rattle.std.proofs.lemmas.Bool.{cases_Bool, cases_eq, cases_lt, cond-true, cond-false, both_ways, and_parts, and_from, eqb-true, eq-eqb, ne_eqb, and_left, and_right}
-use Rattle.std.proofs.lemmas.List.{take_more, append-nil, length-append, get_or-set_same, get_or-set_other, length-set, length-map, map-set, get_or-drop, get_or-take, length-drop, length-take-le}
+use Rattle.std.proofs.lemmas.List.{take_more, append-nil, length-append, get_or-set_same, length-set, length-map, map-set, get_or-drop, get_or-take, length-drop, length-take-le}
 use Rattle.std.specs.Map.{lookup}
 use Rattle.tables.specs.declared.node_table.Place.{Place}
 use Rattle.tables.specs.declared.node_table.Place.TheVariants.{Free, Removed, Held}
@@ -9,7 +9,7 @@ use Rattle.tables.specs.Probing.{Slot, free, gone, holds, entry_of, entries_of, 
 use Rattle.tables.specs.declared.node_table.Probe.{Probe}
 use Rattle.tables.specs.declared.node_table.Probe.TheVariants.{Found, Vacant, Full}
 use Rattle.tables.specs.NodeTable.{ProbeMeans, LocateMeans, Children, slot_of, slots_of, home, TableValue, found_in, found, Puts}
-use Rattle.tables.proofs.Probing.{IsOther, held, length_entry, found_none, found_at, found-set, used-set, held-set, held_at, used_all, held_within, probed_add, probed_remove, held_used, entry_cases, absent_vacant}
+use Rattle.tables.proofs.Probing.{IsOther, held, length_entry, found_none, found_at, found-set, used-set, held-set, used_all, held_within, probed_add, probed_remove, entry_cases, absent_vacant}
 
 abbrev pub is_key : ℕ → ℕ → Children → Bool
 is_key low high k = eqb low k.0 && eqb high k.1

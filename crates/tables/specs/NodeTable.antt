@@ -1,11 +1,11 @@
 -- The held nodes of one variable, by their children.
-use Rattle.std.specs.Prelude.{◌≡◌, ◌≢◌, ◌⊎◌, ℕ, ◌+◌, ◌*◌, ◌/◌, ◌%◌, ◌^◌, ◌<◌, ◌≤◌, Bool, ◌&&◌, ◌==◌, List, [], map, length, Option, None, Some}
+use Rattle.std.specs.Prelude.{◌≡◌, ◌≢◌, ◌⊎◌, ℕ, ◌+◌, ◌*◌, ◌/◌, ◌%◌, ◌^◌, ◌<◌, ◌&&◌, ◌==◌, List, map, length, Option}
 use Rattle.std.specs.Map.{lookup}
 use Rattle.tables.specs.declared.node_table.Place.{Place}
 use Rattle.tables.specs.declared.node_table.Place.TheVariants.{Free, Removed, Held}
 use Rattle.tables.specs.declared.node_table.Probe.{Probe}
 use Rattle.tables.specs.declared.node_table.Probe.TheVariants.{Found, Vacant, Full}
-use Rattle.tables.specs.Probing.{Slot, free, gone, holds, entries_of, used_of, at, IsAbsent, IsProbed, IsFirstFree, ArePassed}
+use Rattle.tables.specs.Probing.{Slot, free, gone, holds, at, IsFirstFree, ArePassed}
 
 abbrev pub Children : Type 0
 Children = ℕ × ℕ

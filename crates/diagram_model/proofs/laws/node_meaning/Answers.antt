@@ -1,4 +1,4 @@
-use Rattle.std.proofs.Common.{◌≡◌, ℕ, ◌∙◌, length, Bool, true, false, cond, refl, ap, arith}
+use Rattle.std.proofs.Common.{◌∙◌, length, arith}
 use Rattle.diagram_model.proofs.Values.{value-small, value-node}
 use Rattle.diagram_model.proofs.Meanings.{child_value}
 use Rattle.diagram_model.proofs.laws.node_meaning.Goals as goal

@@ -1,4 +1,4 @@
-use Rattle.std.proofs.Common.{◌≡◌, length}
+use Rattle.std.proofs.Common.{length}
 use Rattle.diagram_model.proofs.Canonical.{same_node}
 use Rattle.diagram_model.proofs.laws.nodes_are_canonical.Goals as goal
 

@@ -1,5 +1,5 @@
-use Rattle.std.proofs.Common.{◌≡◌, rules, IsOk, IsSome, sym, ◌∙◌, ap, subst}
-use Rattle.computed_cache.specs.Entries.{Cached, same_key, value_at, kept}
+use Rattle.std.proofs.Common.{◌≡◌, rules, IsOk, IsSome, sym, ◌∙◌, subst}
+use Rattle.computed_cache.specs.Entries.{Cached, same_key, value_at}
 use Rattle.lru.specs.LruCache.{put_entries, lru_cache}
 use Rattle.computed_cache.proofs.Puts.{put_is}
 use Rattle.computed_cache.proofs.cache.Cache.keep.Goals as goal

@@ -1,5 +1,5 @@
 use Rattle.std.proofs.Common.{◌≡◌, ◌∙◌, rules}
-use Rattle.computed_cache.specs.Entries.{same_key, touched}
+use Rattle.computed_cache.specs.Entries.{same_key}
 use Rattle.lru.specs.LruCache.{promoted}
 use Rattle.computed_cache.proofs.Puts.{promoted_is}
 use Rattle.computed_cache.proofs.cache.Cache.look.Goals as goal

@@ -1,11 +1,11 @@
-use Rattle.std.proofs.Common.{◌≡◌, ◌<◌, ℕ, sym, length, arith, set, Some, None, ◌∙◌}
+use Rattle.std.proofs.Common.{◌≡◌, ◌<◌, sym, length, arith, None}
 use Rattle.std.proofs.lemmas.List.{length-set}
-use Rattle.tables.specs.Probing.{at, holds, free, IsAbsent, entries_of}
+use Rattle.tables.specs.Probing.{entries_of}
 use Rattle.tables.specs.NodeTable.{slots_of, home, LocateMeans, found_in}
 use Rattle.tables.specs.declared.node_table.Place.TheVariants.{Held}
 use Rattle.tables.specs.declared.node_table.Probe.TheVariants.{Found, Vacant, Full}
-use Rattle.tables.proofs.Probing.{absent_vacant, held_used}
-use Rattle.tables.proofs.Nodes.{find_found, absent_new, no_place, add_probed, add_used, add_count, add_puts}
+use Rattle.tables.proofs.Probing.{held_used}
+use Rattle.tables.proofs.Nodes.{absent_new, no_place, add_probed, add_used, add_count, add_puts}
 use Rattle.tables.proofs.node_table.NodeTable.add.Goals as goal
 
 pub overflow_add-self : goal.overflow_add-self

@@ -1,5 +1,4 @@
-use Rattle.std.proofs.Common.{◌≡◌, sym, length, arith}
-use Rattle.tables.specs.Probing.{at, holds, free, IsAbsent}
+use Rattle.std.proofs.Common.{sym, length}
 use Rattle.tables.specs.NodeTable.{slots_of, home, LocateMeans}
 use Rattle.tables.specs.declared.node_table.Probe.TheVariants.{Found, Vacant, Full}
 use Rattle.tables.proofs.Probing.{absent_vacant}

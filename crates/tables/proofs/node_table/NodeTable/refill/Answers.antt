@@ -1,8 +1,7 @@
-use Rattle.std.proofs.Common.{◌≡◌, ◌<◌, ◌≤◌, ℕ, None, refl, sym, [], length, arith, ap, ◌+◌, ◌∙◌, take}
+use Rattle.std.proofs.Common.{◌≡◌, None, refl, arith, ◌+◌, ◌∙◌}
 use Rattle.tables.specs.Probing.{entries_of}
-use Rattle.tables.specs.NodeTable.{slots_of, found}
+use Rattle.tables.specs.NodeTable.{found}
 use Rattle.tables.specs.declared.node_table.Place.TheVariants.{Held, Free, Removed}
-use Rattle.tables.proofs.Probing.{entries_free}
 use Rattle.tables.proofs.Nodes.{first_new, count_more, count_take, copies_held, copies_free, copies_removed}
 use Rattle.tables.proofs.node_table.NodeTable.refill.Goals as goal
 use Rattle.tables.proofs.node_table.NodeTable.refill.Goals.{in-Held, in-Removed, in-Free}

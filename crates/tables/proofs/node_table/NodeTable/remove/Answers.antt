@@ -1,10 +1,9 @@
-use Rattle.std.proofs.Common.{◌≡◌, ◌<◌, ◌+◌, ℕ, sym, length, arith, set, Some, None, ◌∙◌}
+use Rattle.std.proofs.Common.{sym, length, arith}
 use Rattle.std.proofs.lemmas.List.{length-set}
-use Rattle.tables.specs.Probing.{at, holds, free, IsAbsent, entries_of}
-use Rattle.tables.specs.NodeTable.{slots_of, home, LocateMeans, found_in}
+use Rattle.tables.specs.NodeTable.{slots_of, home, LocateMeans}
 use Rattle.tables.specs.declared.node_table.Place.TheVariants.{Removed}
 use Rattle.tables.specs.declared.node_table.Probe.TheVariants.{Found, Vacant, Full}
-use Rattle.tables.proofs.Probing.{absent_vacant, held_used}
+use Rattle.tables.proofs.Probing.{absent_vacant}
 use Rattle.tables.proofs.Nodes.{absent_full, remove_probed, remove_used, remove_count, remove_puts, absent_puts}
 use Rattle.tables.proofs.node_table.NodeTable.remove.Goals as goal
 

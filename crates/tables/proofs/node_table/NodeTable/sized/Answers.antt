@@ -1,6 +1,6 @@
-use Rattle.std.proofs.Common.{◌≡◌, ◌<◌, ◌^◌, ℕ, refl, sym, [], length, arith, List, ap, ◌+◌, replicate, ◌∙◌}
+use Rattle.std.proofs.Common.{◌≡◌, ℕ, length, arith, ap, replicate, ◌∙◌}
 use Rattle.std.proofs.lemmas.List.{length-replicate}
-use Rattle.tables.specs.Probing.{IsProbed, at, free, holds, entries_of, used_of}
+use Rattle.tables.specs.Probing.{at, free}
 use Rattle.tables.specs.NodeTable.{slots_of, home}
 use Rattle.tables.specs.declared.node_table.Place.TheVariants.{Free}
 use Rattle.tables.proofs.Probing.{probed_free, used_free, entries_free}
