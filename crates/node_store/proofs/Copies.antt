@@ -1,10 +1,10 @@
 -- A copy of slots.
-use Rattle.std.proofs.Common.{◌≡◌, ℕ, List, [], ◌∷◌, length, Option, Some, None, refl, sym, ◌∙◌, ap}
+use Rattle.std.proofs.Common.{◌≡◌, List, [], ◌∷◌, length, Option, Some, None, refl, sym, ◌∙◌, ap}
 use Rattle.std.specs.List.{AllZip}
 use Rattle.slab.specs.Slab.{IsSlotClone}
 use Rattle.diagram_model.specs.declared.parts.Parts.{Parts}
 use Rattle.node_store.specs.declared.slots.Slots.TheInside.{Inside}
-use Rattle.node_store.specs.Stored.{view_of, IsStored}
+use Rattle.node_store.specs.Stored.{IsStored}
 
 -- clones of slots are the slots
 pub slots_same : (C : Parts → Parts → Type 0) → ((p q : Parts) → C p q → q ≡ p) → (s t : List (Option Parts)) → AllZip (IsSlotClone C) s t → t ≡ s

@@ -1,14 +1,13 @@
 -- Counting the nodes that are reached.
-use Rattle.std.proofs.Common.{◌≡◌, ◌≢◌, ◌⊎◌, ℕ, zero, suc, ◌+◌, ◌<◌, ◌≤◌, Bool, true, false, cond, eqb, List, [], ◌∷◌, ◌++◌, map, take, length, Option, Some, None, get_or, is_some, count_by, inl, inr, refl, sym, ◌∙◌, ap, arith, eq-eqb, All}
+use Rattle.std.proofs.Common.{◌≡◌, ℕ, zero, suc, ◌+◌, ◌<◌, ◌≤◌, true, false, cond, eqb, List, [], ◌∷◌, ◌++◌, map, take, length, Option, Some, None, get_or, is_some, count_by, inl, inr, refl, sym, ◌∙◌, ap, arith, eq-eqb, All}
 use Rattle.std.specs.List.{IsDistinct}
 use Rattle.std.specs.Cmp.{nat_eq_equiv}
-use Rattle.std.proofs.lemmas.Bool.{cases_Bool, cases_eq, cond-true, cond-false, eqb-true, ne_eqb, or_cases, or_left, or_right, false≢true}
+use Rattle.std.proofs.lemmas.Bool.{eqb-true, or_cases, or_left, or_right, false≢true}
 use Rattle.std.proofs.lemmas.List.Sums.{sum_by-cons}
-use Rattle.std.proofs.lemmas.List.{take_more, take_all, map-append}
+use Rattle.std.proofs.lemmas.List.{take_more, map-append}
 use Rattle.std.proofs.lemmas.Map.Made.{length-le_from_is_member}
 use Rattle.diagram_model.specs.declared.parts.Parts.{Parts}
-use Rattle.diagram_model.specs.Nodes.{parts_of, child, denoted, IsLiveIn}
-use Rattle.diagram_model.specs.Functions.{Function}
+use Rattle.diagram_model.specs.Nodes.{parts_of, denoted, IsLiveIn}
 use Rattle.diagram_model.specs.Size.{size}
 use Rattle.diagram_model.specs.Stores.{Diagram, HasParts, IsSound, IsLive, held, function_of}
 use Rattle.diagram_model.specs.Reach.{is_in, Reaches}

@@ -1,17 +1,17 @@
 -- Whether two nodes differ, by their values once a variable is fixed.
 use Rattle.std.proofs.Common.{◌≡◌, ◌≢◌, ◌⊎◌, ℕ, zero, suc, ◌+◌, ◌<◌, ◌≤◌, Bool, true, false, cond, eqb, ◌&&◌, List, [], ◌∷◌, length, Option, Some, None, get_or, inl, inr, refl, sym, ◌∙◌, ap, arith, eq-eqb}
 use Rattle.std.specs.List.{list_any}
-use Rattle.std.proofs.lemmas.Bool.{cases_Bool, cases_eq, cond-true, cond-false, eqb-true, ne_eqb, false≢true, or_cases, or_left, or_right, and_parts}
-use Rattle.bit_lists.specs.Orders.{has, after}
-use Rattle.bit_lists.specs.Partials.{fits, agrees, value_of, fits_some, agrees_at, agrees_all}
-use Rattle.diagram_model.specs.Functions.{Assignment, Function, bit, put, fix}
-use Rattle.diagram_model.specs.Nodes.{value, walk, follow, IsLiveIn}
-use Rattle.diagram_model.specs.Stores.{Diagram, IsSound, IsLive, IsAbove, IsTop, function_of, from, HasVariable, depth}
+use Rattle.std.proofs.lemmas.Bool.{cases_Bool, cases_eq, cond-true, cond-false, eqb-true, ne_eqb, and_parts}
+use Rattle.bit_lists.specs.Orders.{has}
+use Rattle.bit_lists.specs.Partials.{fits, value_of, fits_some, agrees_at, agrees_all}
+use Rattle.diagram_model.specs.Functions.{Assignment, Function, bit, put}
+use Rattle.diagram_model.specs.Nodes.{value, follow, IsLiveIn}
+use Rattle.diagram_model.specs.Stores.{Diagram, IsSound, IsLive, function_of, from, HasVariable, depth}
 use Rattle.diagram_model.proofs.Fixing.{value_follow, follow_above, above_live, live_from_order, ignores_above, put_at, depth_follow, depth_falls}
 use Rattle.diagram_model.proofs.Prefixes.{Ignores}
 use Rattle.diagram_model.proofs.Values.{value-small, below-order}
 use Rattle.diagram_model.proofs.Sizes.{walk-agree}
-use Rattle.node_store.specs.Differs.{Differ, Coincide, Agrees, DifferAt, CoincideAt, AllCoincide, is_pair, IsTrueSomewhere, IsFalseThroughout}
+use Rattle.node_store.specs.Differs.{Differ, Coincide, DifferAt, CoincideAt, AllCoincide, is_pair, IsTrueSomewhere, IsFalseThroughout}
 
 -- a value that is fixed to b alone, or free, fits b
 fits_when : (o : Option Bool) (b : Bool) → ((c : Bool) → o ≡ Some c → b ≡ c) → fits o b ≡ true

@@ -1,20 +1,19 @@
 -- What the fields of slots keep.
-use Rattle.std.proofs.Common.{◌≡◌, ◌≢◌, ◌⊎◌, ℕ, zero, suc, ◌+◌, ◌-◌, ◌<◌, ◌≤◌, min, Bool, true, false, cond, eqb, nat_le, List, [], ◌∷◌, ◌++◌, map, length, Option, Some, None, get_or, set, inl, inr, refl, sym, ◌∙◌, ap, arith, IfSome, IfNone, is_some, count_by, ◌&&◌}
+use Rattle.std.proofs.Common.{◌≡◌, ℕ, zero, suc, ◌+◌, ◌-◌, ◌<◌, ◌≤◌, min, true, eqb, nat_le, List, [], ◌∷◌, ◌++◌, map, length, Option, Some, None, get_or, set, inl, inr, refl, sym, ◌∙◌, ap, arith, IfSome, IfNone, is_some, count_by, ◌&&◌}
 use Rattle.std.specs.Map.{lookup}
 use Rattle.std.proofs.lemmas.Bool.{cases_eq, cases_lt, cases_Bool, cond-true, cond-false, leb-true, le-leb}
 use Rattle.std.proofs.lemmas.List.{length-set, get_or-map, length-map, get_or_default}
 use Rattle.slab.specs.Slab.{Slab, get, Updates, slab_len}
 use Rattle.bit_lists.specs.Orders.{has, IsOrder}
 use Rattle.diagram_model.specs.declared.parts.Parts.{Parts}
-use Rattle.diagram_model.specs.Nodes.{parts_of, AreUnique}
+use Rattle.diagram_model.specs.Nodes.{parts_of}
 use Rattle.diagram_model.specs.Stores.{Diagram, PutsNode, IsNew, held}
-use Rattle.diagram_model.proofs.Canonical.{some_same}
 use Rattle.diagram_model.proofs.Values.{below-order}
 use Rattle.diagram_model.proofs.Extend.{here}
 use Rattle.tables.specs.NodeTable.{TableValue, found, Puts, SameFound}
 use Rattle.node_store.specs.declared.slots.Slots.TheInside.{Inside}
-use Rattle.node_store.specs.Slots.{Slotted, IsSlotted, parts, spare_of}
-use Rattle.node_store.specs.Stored.{view_of, spare_in, table_at, Finds, AreIndexed, IsStored}
+use Rattle.node_store.specs.Slots.{IsSlotted, parts, spare_of}
+use Rattle.node_store.specs.Stored.{view_of, spare_in, table_at, AreIndexed, IsStored}
 use Rattle.node_store.proofs.Tables.{indexed_put, slab_puts, indexed_same, table_at-same, table_at-other}
 use Rattle.std.proofs.Math.ListN.{get_or-eq_default}
 

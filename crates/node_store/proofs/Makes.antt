@@ -1,12 +1,12 @@
 -- What `make` keeps where it adds a node.
-use Rattle.std.proofs.Common.{◌≡◌, ◌≢◌, ℕ, ◌+◌, ◌<◌, ◌≤◌, Bool, true, List, length, Option, Some, None, inl, inr, refl, sym, ◌∙◌, ap, arith, Ok, Err, Result, IfOk, OnOk, OnErr}
+use Rattle.std.proofs.Common.{◌≡◌, ◌≢◌, ℕ, true, length, inr, refl, Ok, Err, Result, IfOk, OnOk, OnErr}
 use Rattle.bit_lists.specs.KeptOrders.{has-here}
 use Rattle.bit_lists.specs.Orders.{has, after}
 use Rattle.diagram_model.specs.declared.parts.Parts.{Parts}
-use Rattle.diagram_model.specs.Nodes.{parts_of, IsLiveIn, IsProper}
-use Rattle.diagram_model.specs.Stores.{Diagram, IsSound, IsAbove, Extends, KeepsFunctions, IsChoice, PutsNode, IsNew, held, from}
+use Rattle.diagram_model.specs.Nodes.{IsLiveIn, IsProper}
+use Rattle.diagram_model.specs.Stores.{Diagram, IsSound, IsAbove, KeepsFunctions, IsChoice, PutsNode, from}
 use Rattle.diagram_model.proofs.Extend.{keeps_put}
-use Rattle.diagram_model.proofs.Growing.{functions_kept, functions_same, sound_put}
+use Rattle.diagram_model.proofs.Growing.{functions_kept, functions_same}
 use Rattle.diagram_model.proofs.Values.{value-node}
 use Rattle.node_store.specs.declared.node.Node.{Node}
 use Rattle.node_store.specs.declared.node.StoreStop.{StoreStop}

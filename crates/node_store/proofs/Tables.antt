@@ -1,15 +1,14 @@
 -- The tables find the nodes, before and after a node is added.
-use Rattle.std.proofs.Common.{◌≡◌, ◌≢◌, ◌⊎◌, ℕ, ◌+◌, ◌<◌, ◌≤◌, Bool, true, false, cond, eqb, List, [], ◌∷◌, length, Option, Some, None, get_or, set, inl, inr, refl, sym, ◌∙◌, ap, arith, get_or-set_other, get_or-set_same, zero, suc}
+use Rattle.std.proofs.Common.{◌≡◌, ◌≢◌, ◌⊎◌, ℕ, ◌+◌, ◌<◌, List, [], ◌∷◌, length, Option, Some, None, get_or, set, inl, inr, refl, sym, ◌∙◌, ap, arith, get_or-set_other, get_or-set_same, zero, suc}
 use Rattle.std.proofs.lemmas.Bool.{cases_eq}
 use Rattle.slab.specs.Slab.{Slab, get, Updates}
 use Rattle.diagram_model.specs.declared.parts.Parts.{Parts}
 use Rattle.diagram_model.specs.Nodes.{parts_of}
-use Rattle.diagram_model.specs.Stores.{PutsNode, IsNew}
-use Rattle.diagram_model.proofs.Canonical.{some_same}
+use Rattle.diagram_model.specs.Stores.{PutsNode}
 use Rattle.diagram_model.proofs.Extend.{keeps_put, here}
 use Rattle.tables.specs.NodeTable.{TableValue, found, Puts, SameFound}
 use Rattle.node_store.specs.Slots.{parts}
-use Rattle.node_store.specs.Stored.{table_at, Finds, AreIndexed}
+use Rattle.node_store.specs.Stored.{table_at, AreIndexed}
 
 some_number : (m n : ℕ) → Some m ≡ Some n → m ≡ n
 some_number m n e = cc

@@ -1,11 +1,11 @@
 -- What a walk over the nodes below a node keeps.
-use Rattle.std.proofs.Common.{◌≡◌, ◌≢◌, ◌⊎◌, ℕ, ◌<◌, Bool, true, false, cond, eqb, List, [], ◌∷◌, length, Option, Some, None, inl, inr, refl, sym, ◌∙◌, ap, arith, eq-eqb}
-use Rattle.std.proofs.lemmas.Bool.{cases_Bool, cases_eq, cond-true, cond-false, eqb-true, ne_eqb}
+use Rattle.std.proofs.Common.{◌≡◌, ◌⊎◌, ℕ, Bool, true, false, cond, eqb, List, Some, inl, inr, sym, ◌∙◌, ap, eq-eqb}
+use Rattle.std.proofs.lemmas.Bool.{cases_eq, cond-true, cond-false, ne_eqb}
 use Rattle.diagram_model.specs.declared.parts.Parts.{Parts}
 use Rattle.diagram_model.specs.Nodes.{parts_of, child}
-use Rattle.diagram_model.specs.Stores.{Diagram, HasParts, IsSound, IsLive}
-use Rattle.diagram_model.specs.Reach.{is_in, Reaches}
-use Rattle.diagram_model.specs.Reach.Reaches.{root, step}
+use Rattle.diagram_model.specs.Stores.{Diagram, HasParts}
+use Rattle.diagram_model.specs.Reach.{is_in}
+use Rattle.diagram_model.specs.Reach.Reaches.{step}
 use Rattle.diagram_model.proofs.Canonical.{some_same}
 use Rattle.node_store.specs.Walks.{IsClosed, Keeps, AddsReached}
 

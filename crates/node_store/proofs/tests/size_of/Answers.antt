@@ -1,4 +1,3 @@
-use Rattle.std.proofs.Common.{◌≡◌, ℕ}
 use Rattle.node_store.proofs.Counts.{all_three}
 use Rattle.node_store.proofs.tests.size_of.Goals as goal
 

@@ -1,4 +1,4 @@
-use Rattle.std.proofs.Common.{◌≡◌, ℕ, ◌<◌, length, true, sym, ◌∙◌, ap, arith, inr, ltb}
+use Rattle.std.proofs.Common.{◌≡◌, ◌<◌, length, true, sym, ◌∙◌, ap, arith, inr}
 use Rattle.std.proofs.lemmas.Bool.{ltb-true}
 use Rattle.bit_lists.specs.Orders.{has, place_in}
 use Rattle.node_store.proofs.Climbs.{below_by_place}

@@ -1,10 +1,9 @@
-use Rattle.std.proofs.Common.{◌≡◌, ℕ, ◌<◌, ◌≤◌, ◌+◌, length, arith, sym, ◌∙◌, ap, refl, true, List, Some, None}
+use Rattle.std.proofs.Common.{◌≡◌, ◌<◌, ◌≤◌, arith, sym, refl, true}
 use Rattle.bit_lists.specs.Orders.{has}
-use Rattle.slab.specs.Slab.{Updates, get}
 use Rattle.diagram_model.specs.Stores.{IsNew, held}
 use Rattle.node_store.specs.Slots.{parts, spare_of}
 use Rattle.node_store.specs.Stored.{view_of}
-use Rattle.node_store.proofs.Kept.{within_tables, new_none, added, spares_le, spare_is, spare_here, table_room}
+use Rattle.node_store.proofs.Kept.{new_none, added, spares_le, spare_here, table_room}
 use Rattle.node_store.proofs.slots.Slots.add.Goals as goal
 
 pub insert_reserved-key-requires : goal.insert_reserved-key-requires

@@ -1,4 +1,4 @@
-use Rattle.std.proofs.Common.{◌≡◌, ℕ, ◌<◌, length, arith, sym, ap, true, Option, List}
+use Rattle.std.proofs.Common.{◌≡◌, arith, sym, true}
 use Rattle.bit_lists.specs.Orders.{has}
 use Rattle.node_store.proofs.Kept.{within_tables, found_some, found_none}
 use Rattle.node_store.proofs.slots.Slots.find.Goals as goal

@@ -1,4 +1,4 @@
-use Rattle.std.proofs.Common.{◌≡◌, ℕ, ◌<◌, ◌≤◌, ◌+◌, [], ◌∷◌, length, arith, sym, ◌∙◌, ap, length-append}
+use Rattle.std.proofs.Common.{◌≡◌, [], ◌∷◌, length, arith, length-append}
 use Rattle.bit_lists.specs.Orders.{IsOrder}
 use Rattle.node_store.proofs.Kept.{empty_push, empty_stored}
 use Rattle.node_store.proofs.slots.Slots.new.Goals as goal

@@ -1,7 +1,5 @@
-use Rattle.std.proofs.Common.{◌≡◌, ℕ, ◌<◌, ◌≤◌, ◌+◌, length, arith, sym, ◌∙◌, ap, refl, true, List}
+use Rattle.std.proofs.Common.{◌≡◌, arith, sym, ap, refl, true}
 use Rattle.bit_lists.specs.Orders.{has}
-use Rattle.node_store.specs.Slots.{spare_of}
-use Rattle.node_store.specs.Stored.{view_of}
 use Rattle.node_store.proofs.Kept.{within_tables, stored_same, spares_le, room_made, same_count}
 use Rattle.node_store.proofs.slots.Slots.reserve.Goals as goal
 

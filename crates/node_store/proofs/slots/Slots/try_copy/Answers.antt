@@ -1,6 +1,5 @@
-use Rattle.std.proofs.Common.{◌≡◌, ℕ, take, length, ◌≤◌, arith, refl, sym, ◌∙◌, ap}
+use Rattle.std.proofs.Common.{length, arith, refl, ◌∙◌, ap}
 use Rattle.std.proofs.lemmas.List.{take_all}
-use Rattle.diagram_model.specs.declared.parts.Parts.{Parts}
 use Rattle.node_store.proofs.Copies.{slots_same, copy_stored}
 use Rattle.node_store.proofs.slots.Slots.try_copy.Goals as goal
 

@@ -1,4 +1,4 @@
-use Rattle.std.proofs.Common.{◌≡◌, ℕ, ◌+◌, ◌<◌, length, get_or, true, false, Bool, None, List, [], ◌∷◌, refl, sym, ◌∙◌, ap, arith}
+use Rattle.std.proofs.Common.{◌≡◌, ◌+◌, ◌<◌, length, get_or, true, false, None, [], ◌∷◌, sym, ◌∙◌, arith}
 use Rattle.bit_lists.specs.Partials.{fits}
 use Rattle.diagram_model.specs.Nodes.{follow}
 use Rattle.diagram_model.specs.Stores.{depth}

@@ -1,4 +1,4 @@
-use Rattle.std.proofs.Common.{◌≡◌, ◌+◌, ◌<◌, ℕ, true, false, Bool, [], ◌∷◌, get_or, None}
+use Rattle.std.proofs.Common.{◌≡◌, ◌+◌, ◌<◌, ℕ, true, false, [], ◌∷◌, get_or, None}
 use Rattle.bit_lists.specs.Partials.{fits}
 use Rattle.diagram_model.specs.Nodes.{follow}
 use Rattle.diagram_model.specs.Stores.{depth}

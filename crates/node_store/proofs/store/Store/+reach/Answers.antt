@@ -1,8 +1,5 @@
-use Rattle.std.proofs.Common.{◌≡◌, ℕ, ◌<◌, Bool, true, false, Some, sym, ◌∙◌, arith}
-use Rattle.diagram_model.specs.Nodes.{parts_of}
-use Rattle.diagram_model.specs.Stores.{IsSound}
+use Rattle.std.proofs.Common.{true, false, sym, ◌∙◌, arith}
 use Rattle.diagram_model.proofs.Values.{steps_down}
-use Rattle.node_store.specs.Walks.{IsClosed}
 use Rattle.node_store.proofs.Walks.{Puts, closed_put, keeps_then, put_keeps, reached_put}
 use Rattle.node_store.proofs.store.Store.+reach.Goals as goal
 

@@ -1,7 +1,7 @@
-use Rattle.std.proofs.Common.{◌≡◌, ℕ, ◌+◌, ◌<◌, ◌≤◌, sym, ◌∙◌, ap, arith, true}
+use Rattle.std.proofs.Common.{◌≡◌, ◌+◌, ◌<◌, ◌∙◌, ap, true}
 use Rattle.bit_lists.specs.Orders.{has}
 use Rattle.diagram_model.specs.Nodes.{IsProper}
-use Rattle.diagram_model.specs.Stores.{Diagram, IsSound, IsNew, PutsNode, held}
+use Rattle.diagram_model.specs.Stores.{Diagram, IsNew, PutsNode, held}
 use Rattle.diagram_model.proofs.Growing.{sound_put}
 use Rattle.node_store.specs.Slots.{parts}
 use Rattle.node_store.proofs.store.Store.add.Goals as goal

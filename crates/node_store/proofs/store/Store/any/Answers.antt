@@ -1,4 +1,4 @@
-use Rattle.std.proofs.Common.{◌≡◌, ℕ, Bool, true, false}
+use Rattle.std.proofs.Common.{◌≡◌, Bool, true, false}
 use Rattle.std.proofs.lemmas.Result.{IfOk-weaker}
 use Rattle.node_store.specs.Differs.{Differ, Coincide, IsTrueSomewhere, IsFalseThroughout}
 use Rattle.node_store.proofs.Differing.{true_somewhere, false_throughout}

@@ -1,4 +1,4 @@
-use Rattle.std.proofs.Common.{◌≡◌, ℕ, Bool, true, false}
+use Rattle.std.proofs.Common.{◌≡◌, Bool, true, false}
 use Rattle.std.proofs.lemmas.Result.{IfOk-weaker}
 use Rattle.node_store.specs.Differs.{Differ, Coincide, DifferAt, CoincideAt}
 use Rattle.node_store.proofs.Differing.{differ_lists, coincide_lists}

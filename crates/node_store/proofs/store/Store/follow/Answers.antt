@@ -1,4 +1,4 @@
-use Rattle.std.proofs.Common.{◌≡◌, sym, ◌∙◌}
+use Rattle.std.proofs.Common.{sym, ◌∙◌}
 use Rattle.diagram_model.proofs.Heights.{follow_some, follow_else, follow_none}
 use Rattle.node_store.proofs.store.Store.follow.Goals as goal
 

@@ -1,4 +1,4 @@
-use Rattle.std.proofs.Common.{◌≡◌, ℕ, ◌+◌, ◌-◌, ◌<◌, length, true, sym, ◌∙◌, ap, arith}
+use Rattle.std.proofs.Common.{◌≡◌, ◌+◌, length, true, sym, ◌∙◌, ap, arith}
 use Rattle.bit_lists.specs.Orders.{has, after, place_in}
 use Rattle.diagram_model.specs.Stores.{depth, depth_of}
 use Rattle.diagram_model.proofs.Heights.{length-place}

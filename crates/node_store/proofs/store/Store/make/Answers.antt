@@ -1,9 +1,6 @@
-use Rattle.std.proofs.Common.{◌≡◌, ℕ, length, arith, sym, ◌∙◌, ap, refl, true, Some, inr, List, Bool}
-use Rattle.diagram_model.specs.declared.parts.Parts.{Parts}
-use Rattle.bit_lists.specs.Orders.{has, after}
-use Rattle.diagram_model.specs.Functions.{bit}
-use Rattle.diagram_model.specs.Nodes.{parts_of, value, IsLiveIn}
-use Rattle.diagram_model.specs.Stores.{IsSound, from, PutsNode}
+use Rattle.std.proofs.Common.{length, sym, refl, inr}
+use Rattle.bit_lists.specs.Orders.{after}
+use Rattle.diagram_model.specs.Stores.{IsSound, from}
 use Rattle.bit_lists.specs.KeptOrders.{has-here, has-head}
 use Rattle.diagram_model.proofs.Values.{live-wider, value-node}
 use Rattle.node_store.specs.Slots.{parts}

@@ -1,5 +1,5 @@
-use Rattle.std.proofs.Common.{◌≡◌, ℕ, ◌+◌, ◌-◌, ◌<◌, ◌≤◌, max, length, get_or, true, sym, ◌∙◌, ap, arith}
-use Rattle.diagram_model.specs.Stores.{IsTop, depth}
+use Rattle.std.proofs.Common.{◌≡◌, ◌-◌, ◌<◌, max, length, get_or, ◌∙◌, ap, arith}
+use Rattle.diagram_model.specs.Stores.{depth}
 use Rattle.diagram_model.proofs.Heights.{top_is}
 use Rattle.node_store.proofs.Climbs.{depth-le, max-le}
 use Rattle.node_store.proofs.store.Store.top_of.Goals as goal

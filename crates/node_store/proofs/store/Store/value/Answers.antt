@@ -1,7 +1,5 @@
-use Rattle.std.proofs.Common.{◌≡◌, ℕ, ◌<◌, length, get_or, false, arith, sym, ◌∙◌, refl}
+use Rattle.std.proofs.Common.{false, arith, sym, ◌∙◌, refl}
 use Rattle.diagram_model.specs.Functions.{bit}
-use Rattle.diagram_model.specs.Nodes.{value, child, parts_of}
-use Rattle.diagram_model.specs.Stores.{IsSound}
 use Rattle.diagram_model.proofs.Values.{steps_down, at_end}
 use Rattle.node_store.proofs.store.Store.value.Goals as goal
 

@@ -1,4 +1,4 @@
-use Rattle.std.proofs.Common.{◌≡◌, ℕ}
+use Rattle.std.proofs.Common.{◌≡◌}
 use Rattle.diagram_model.specs.Functions.{bit}
 use Rattle.diagram_model.specs.Nodes.{value}
 use Rattle.diagram_model.specs.Stores.{IsLive, depth}
