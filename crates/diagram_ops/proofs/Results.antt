@@ -5,7 +5,7 @@ use mathlib.Core.Path.{fun_ext}
 use Rattle.bit_lists.specs.Orders.{has, after}
 use Rattle.diagram_model.specs.Functions.{Assignment, Function, put, fix}
 use Rattle.diagram_model.specs.Nodes.{follow, IsLiveIn}
-use Rattle.diagram_model.specs.Stores.{Diagram, IsLive, IsAbove, IsSound, Extends, IsChoice, from, function_of}
+use Rattle.diagram_model.specs.Stores.{Diagram, IsLive, IsAbove, IsSound, Extends, IsChoice, from, function_of, KeepsFunctions}
 use Rattle.diagram_model.proofs.Extend.{value-extends}
 use Rattle.diagram_model.proofs.Fixing.{follow_above, above_live, depth_follow, depth_falls, from_after, var_above, live_from_order, fix_function}
 use Rattle.diagram_model.proofs.Growing.{live_on, above_on, above_back, depth_on, function_on}
@@ -19,6 +19,13 @@ use Rattle.diagram_ops.specs.Operations.{Operation, result_of, IsResult, AreResu
 
 pub same_store : (d : Diagram) → Extends d d
 same_store d = record { order = refl; limit = refl; kept = λ n p is. is }
+
+-- functions kept by one call, and by another after it
+pub functions_then : (d e k : Diagram) → KeepsFunctions d e → KeepsFunctions e k → KeepsFunctions d k
+functions_then d e k first second = record {
+  live = λ n live. second.live n (first.live n live);
+  same = λ n live x. second.same n (first.live n live) x ∙ first.same n live x;
+}
 
 pub lives_on : (d e : Diagram) (at : Operands) → Extends d e → AreLive d at → AreLive e at
 lives_on d e at ext live = (live_on d e at.f ext live.0, live_on d e at.g ext live.1, live_on d e at.h ext live.2)

@@ -11,3 +11,6 @@ mod short;
 mod split;
 
 pub use diagrams::Diagrams;
+
+#[cfg(test)]
+mod tests;
