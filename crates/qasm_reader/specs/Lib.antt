@@ -5,3 +5,5 @@ pub mod Acts
 pub mod Calls
 pub mod Reasons
 pub mod Reading
+pub mod Fronts
+pub mod Parsing

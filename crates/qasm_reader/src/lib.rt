@@ -4,8 +4,10 @@
 #![tactic(auto)]
 
 mod builtin;
+mod lexemes;
 mod reason;
 mod registers;
+mod statement;
 mod turn;
 
 pub use reason::{ReadStop, Refusal, Why};
