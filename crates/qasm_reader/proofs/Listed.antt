@@ -9,7 +9,7 @@ use Rattle.qasm_reader.specs.Fronts.{and_then, is_stop, before_stop, has_stop, a
 use Rattle.qasm_reader.specs.Parsing.{lead, split, argument_at, gather, arguments_at, after_some, lead_angle, next_angle, scan, filled}
 
 -- the first part, and those after it
-split_cut : (ls : List Lexeme) → split ls ≡ before_stop Comma ls ∷ cond (has_stop Comma ls) (split (after_stop Comma ls)) []
+pub split_cut : (ls : List Lexeme) → split ls ≡ before_stop Comma ls ∷ cond (has_stop Comma ls) (split (after_stop Comma ls)) []
 split_cut [] = refl
 split_cut (l ∷ ls) = by (is_stop Comma l) refl (split_cut ls)
   where

@@ -12,7 +12,10 @@ use Rattle.std.proofs.lemmas.Bool.Decides.{nat_tests}
 use Rattle.qasm_reader.specs.Lexemes.{Lexeme, lexeme_of, lexemes_of, of_kind}
 use Rattle.qasm_reader.specs.declared.lexemes.Stop.{Stop}
 use Rattle.qasm_reader.specs.declared.lexemes.Stop.TheVariants.{Semicolon, Comma, To}
-use Rattle.qasm_reader.specs.Lexemes.{is_mark}
+use Rattle.qasm_lex.specs.Lexemes.{lexeme}
+use Rattle.qasm_lex.specs.Symbols.{symbol_of}
+use Rattle.qasm_lex.specs.Angles.{symbols_of}
+use Rattle.qasm_reader.specs.Lexemes.{is_mark, spelling, symbols}
 use Rattle.qasm_reader.specs.Fronts.{is_stop, ends_kind, before_stop, has_stop, after_stop, stop_place, ends_angle, deeper, plus, angle_place, angle_at, led_by}
 
 append_none : {X : Type 0} (xs : List X) → xs ++ [] ≡ xs
@@ -141,3 +144,17 @@ angle_in_tokens depth text (t ∷ tokens) =
 pub plus_more : (n : ℕ) (x : Option (ℕ × Bool)) → plus n (plus 1 x) ≡ plus (n + 1) x
 plus_more n None = refl
 plus_more n (Some p) = let e : n + (1 + p.0) ≡ (n + 1) + p.0 = omega arith in ap (λ m. Some (m, p.1)) e
+
+symbol_by_kind : (kind : TokenKind) (bytes : List ℕ) → symbol_of (spelling (of_kind kind bytes)) ≡ symbol_of (record { kind = kind; bytes = bytes })
+symbol_by_kind Word bytes = refl
+symbol_by_kind Whole bytes = refl
+symbol_by_kind Real bytes = refl
+symbol_by_kind Text bytes = refl
+symbol_by_kind Arrow bytes = refl
+symbol_by_kind Equal bytes = refl
+symbol_by_kind (Mark b) bytes = refl
+
+-- lexemes stand for what their tokens stand for
+pub symbols_same : (text : List ℕ) (tokens : List Token) → symbols (lexemes_of text tokens) ≡ symbols_of text tokens
+symbols_same text [] = refl
+symbols_same text (t ∷ tokens) = ap (λ s. s ∷ symbols (lexemes_of text tokens)) (symbol_by_kind t.kind _) ∙ ap (λ r. symbol_of (lexeme text t) ∷ r) (symbols_same text tokens)

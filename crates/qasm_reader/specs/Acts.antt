@@ -64,19 +64,27 @@ target all a = record { register = or_none (register all a.name); index = index_
 abbrev pub targets : List (List ℕ × Register) → List Argument → List Target
 targets all arguments = map (target all) arguments
 
--- an argument is a whole register, or one place
+abbrev pub size_first : Option ℕ → ℕ → List ℕ → List ℕ
+size_first None size sizes = size ∷ sizes
+size_first (Some i) size sizes = sizes
+
+-- the sizes of those arguments that are whole registers
 abbrev pub wholes : List Target → List ℕ
 wholes [] = []
-wholes (t ∷ ts) = elim t.index as (λ _. List ℕ) [ None ↦ t.register.size ∷ wholes ts | Some i ↦ wholes ts ]
+wholes (t ∷ ts) = size_first t.index t.register.size (wholes ts)
 
 -- how many places the arguments have together: those of the whole registers, else one
 abbrev pub places : List ℕ → ℕ
 places [] = 1
 places (n ∷ ns) = n
 
+abbrev pub index_or : Option ℕ → ℕ → ℕ
+index_or None place = place
+index_or (Some i) place = i
+
 -- the qubit of an argument at a place: a single place is the same at each
 abbrev pub qubit_at : ℕ → Target → ℕ
-qubit_at place t = elim t.index as (λ _. ℕ) [ None ↦ t.register.first + place | Some i ↦ t.register.first + i ]
+qubit_at place t = t.register.first + index_or t.index place
 
 abbrev pub qubits_at : List Target → ℕ → List ℕ
 qubits_at ts place = map (qubit_at place) ts

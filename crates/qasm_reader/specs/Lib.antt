@@ -7,3 +7,4 @@ pub mod Reasons
 pub mod Reading
 pub mod Fronts
 pub mod Parsing
+pub mod Scope

@@ -58,9 +58,13 @@ is_unknown all quantum a = not (same_sort quantum (register all a.name))
 abbrev pub unknown_register : List (List ℕ × Register) → Statement → Bool
 unknown_register all s = list_any (is_unknown all true) (qubit_arguments s) || list_any (is_unknown all false) (bit_arguments s)
 
+abbrev pub reaches : Option ℕ → ℕ → Bool
+reaches None size = false
+reaches (Some i) size = nat_le size i
+
 -- the index isn't below the register's size
 abbrev pub is_beyond : Target → Bool
-is_beyond t = elim t.index as (λ _. Bool) [ None ↦ false | Some i ↦ nat_le t.register.size i ]
+is_beyond t = reaches t.index t.register.size
 
 -- 0, or more than 1,000,000
 abbrev pub no_size : ℕ → Bool

@@ -1,9 +1,12 @@
 //! The tokens of a part of a text, with their bytes, read from the front.
-ghost use Rattle.std.specs.Prelude.{◌≡◌, ◌≤◌, ◌<◌, ◌∷◌, [], false, length, drop, suc, MatchOption, IfSome, IfNone};
+ghost use Rattle.std.specs.Prelude.{◌≡◌, ◌≤◌, ◌<◌, Result, ◌∷◌, [], false, length, drop, suc, MatchOption, IfSome, IfNone};
 ghost use Rattle.std.specs.List.{list_any};
 ghost use Rattle.std.specs.Str.{bytes_eq};
 ghost use Rattle.qasm_lex.specs.Lexemes.{AreOfText};
-ghost use Rattle.qasm_reader.specs.Lexemes.{lexemes_of, lexeme_of, is_mark, of_kind};
+ghost use Rattle.qasm_lex.specs.declared.refusal.AngleRefusal.{AngleRefusal};
+ghost use Rattle.qasm_lex.specs.Fractions.{Ratio};
+ghost use Rattle.qasm_lex.specs.Angles.{IsAnswer, answer_of};
+ghost use Rattle.qasm_reader.specs.Lexemes.{symbols, lexemes_of, lexeme_of, is_mark, of_kind};
 ghost use Rattle.qasm_reader.specs.Statements.{is_name, begins_low, keywords};
 ghost use Rattle.qasm_reader.specs.Fronts.{
   seen,
@@ -26,7 +29,7 @@ ghost use Rattle.qasm_reader.specs.Fronts.{
   plus,
 };
 
-use qasm_lex::{Token, TokenKind};
+use qasm_lex::{AngleRefusal, PiFraction, Token, TokenKind, angle};
 use std::marker::Model;
 
 /// A token with its bytes.
@@ -127,6 +130,14 @@ impl<'a> Lexemes<'a> {
             Some(_) => false,
             None => false,
         }
+    }
+
+    /// The fraction of π that they spell, or the refusal that is met first.
+    pub fn fraction(&self) -> Result<PiFraction, AngleRefusal>
+        ensures is { IsAnswer (symbols self.now) (answer_of result) }
+        ensures only { (answer : Result Ratio AngleRefusal) → IsAnswer (symbols self.now) answer → answer ≡ answer_of result }
+    {
+        angle(self.text, self.tokens)
     }
 
     fn ahead(&self) -> Lexemes<'a>

@@ -4,10 +4,15 @@
 #![tactic(auto)]
 
 mod builtin;
+mod calls;
+mod digits;
+mod laws;
 mod lexemes;
 mod reason;
 mod registers;
 mod statement;
+mod targets;
 mod turn;
 
+pub use laws::statements_are_unambiguous;
 pub use reason::{ReadStop, Refusal, Why};

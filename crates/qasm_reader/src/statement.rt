@@ -1,9 +1,9 @@
 //! Statements, read from their tokens.
-ghost use Rattle.std.specs.Prelude.{◌≡◌, ◌∷◌, [], IfOk, List};
+ghost use Rattle.std.specs.Prelude.{◌≡◌, ◌∷◌, [], IfOk, IfSome, List, Some};
 ghost use Rattle.std.specs.List.{list_any};
 ghost use Rattle.std.specs.Str.{bytes_eq};
 ghost use Rattle.qasm_reader.specs.Lexemes.{Lexeme as Shown};
-ghost use Rattle.qasm_reader.specs.Statements.{is_left_out, words_left_out};
+ghost use Rattle.qasm_reader.specs.Statements.{Statement, Formed, written, is_left_out, words_left_out};
 ghost use Rattle.qasm_reader.specs.Fronts.{index_at};
 ghost use Rattle.qasm_reader.specs.Parsing.{
   seen_bytes,
@@ -293,9 +293,7 @@ fn read_after<'a>(
     }
 }
 
-/// The statement that lexemes are, up to its `;`. Its arguments and its angles are put into the lists, which are cleared first.
-/// None where they have no form of a statement. The work is linear in the lexemes.
-pub fn read_statement<'a>(
+fn read_form<'a>(
     lexemes: &mut Lexemes<'a>,
     arguments: &mut Vec<Argument<'a>>,
     angles: &mut Vec<Lexemes<'a>>,
@@ -307,4 +305,17 @@ pub fn read_statement<'a>(
         Some(_) => Ok(None),
         None => Ok(None),
     }
+}
+
+/// The statement that lexemes are, up to its `;`. Its arguments and its angles are put into the lists, which are cleared first.
+/// None where they have no form of a statement. The work is linear in the lexemes.
+pub fn read_statement<'a>(
+    lexemes: &mut Lexemes<'a>,
+    arguments: &mut Vec<Argument<'a>>,
+    angles: &mut Vec<Lexemes<'a>>,
+) -> Result<Option<Form<'a>>, OutOfMemory>
+    ensures found { IfOk result (λ form. IfSome (shown_if form arguments.new.items angles.new.items lexemes.new) (λ s. Formed s × (lexemes.old ≡ written s))) }
+    ensures only { IfOk result (λ form. (s : Statement) → Formed s → lexemes.old ≡ written s → shown_if form arguments.new.items angles.new.items lexemes.new ≡ Some s) }
+{
+    read_form(lexemes, arguments, angles)
 }
