@@ -11,3 +11,6 @@ pub mod Names
 pub mod Resolving
 pub mod PartCuts
 pub mod Exact
+pub mod Applied
+pub mod Deciding
+pub mod Good

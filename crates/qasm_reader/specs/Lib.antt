@@ -8,3 +8,4 @@ pub mod Reading
 pub mod Fronts
 pub mod Parsing
 pub mod Scope
+pub mod Tests

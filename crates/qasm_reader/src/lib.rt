@@ -3,6 +3,7 @@
 //! A text is cut into tokens, its tokens into statements, and these are carried out one after the other.
 #![tactic(auto)]
 
+mod apply;
 mod builtin;
 mod calls;
 mod digits;
@@ -11,6 +12,8 @@ mod lexemes;
 mod reason;
 mod registers;
 mod statement;
+#[cfg(test)]
+mod statement_tests;
 mod targets;
 mod turn;
 
