@@ -163,11 +163,55 @@ off_grid_tells limit before s (Quarters m) i b = absurd (let p = both_parts (has
 
 -- the tests tell what a statement breaks
 tests_tell : (limit : ℕ) (before : List Act) (s : Statement) (t : Turned) → AngleIs s t → Told (Breaks limit before s) (tests limit before s t) (reasons t) 3
-tests_tell limit before s t i =
-    (λ e. e, λ e. refl, (λ e. e, λ e. refl, (λ e. e, λ e. refl, (λ e. e, λ e. refl, (λ e. e, λ e. refl, (λ e. e, λ e. refl, (λ e. e, λ e. refl, (λ e. e, λ e. refl,
-    (refused_tells limit before s t i, refused_order s t, (off_grid_tells limit before s t i, λ e. refl, (λ e. e, λ e. refl,
-    (λ e. (let x = exceeds_true limit (act_of s t) (λ act. qubit_count (before ++ act ∷ [])) e in (x.0, act_does s t x.0 i x.1, x.2)), λ e. refl,
-    (λ e. (let x = exceeds_true 1000000 (act_of s t) (λ act. length (gates (before ++ act ∷ []))) e in (x.0, act_does s t x.0 i x.1, x.2)), λ e. refl, tt)))))))))))))
+tests_tell limit before s t i = (
+  λ e. e,
+  λ e. refl,
+  (
+    λ e. e,
+    λ e. refl,
+    (
+      λ e. e,
+      λ e. refl,
+      (
+        λ e. e,
+        λ e. refl,
+        (
+          λ e. e,
+          λ e. refl,
+          (
+            λ e. e,
+            λ e. refl,
+            (
+              λ e. e,
+              λ e. refl,
+              (
+                λ e. e,
+                λ e. refl,
+                (
+                  refused_tells limit before s t i,
+                  refused_order s t,
+                  (
+                    off_grid_tells limit before s t i,
+                    λ e. refl,
+                    (
+                      λ e. e,
+                      λ e. refl,
+                      (
+                        λ e. (let x = exceeds_true limit (act_of s t) (λ act. qubit_count (before ++ act ∷ [])) e in (x.0, act_does s t x.0 i x.1, x.2)),
+                        λ e. refl,
+                        (λ e. (let x = exceeds_true 1000000 (act_of s t) (λ act. length (gates (before ++ act ∷ []))) e in (x.0, act_does s t x.0 i x.1, x.2)), λ e. refl, tt),
+                      ),
+                    ),
+                  ),
+                ),
+              ),
+            ),
+          ),
+        ),
+      ),
+    ),
+  ),
+)
 
 refused_both : (s : Statement) (t : Turned) (e : AngleRefusal) (angle : List Lexeme) → HasAngle s angle → Refused e ≡ t → both (has_angle s) (is_refused t) ≡ true
 refused_both s t e angle h q = ap (λ x. both x (is_refused t)) (angle_there s angle h) ∙ ap is_refused (sym q)

@@ -72,9 +72,10 @@ declaration_found ls p e =
     let s = and_then_some (name_at ls) (λ n. and_then (index_at n.1) (λ d. Some (n.0, d))) p e in
     let t = and_then_some (index_at s.0.1) (λ d. Some (s.0.0, d)) p s.2 in
     let n = name_found ls s.0 s.1 in
-    let q : (s.0.0, t.0) ≡ p = some_same (s.0.0, t.0) p t.2 in
-    (n.0 ∙ ap (λ r. word s.0.0 ∷ r) (index_found s.0.1 t.0 t.1) ∙ ap (λ (r : List ℕ × List ℕ). word r.0 ∷ mark 91 ∷ whole r.1 ∷ mark 93 ∷ []) q,
-     ap is_name (ap (λ (r : List ℕ × List ℕ). r.0) (sym q)) ∙ n.1)
+    let q : (s.0.0, t.0) ≡ p = some_same (s.0.0, t.0) p t.2 in (
+      n.0 ∙ ap (λ r. word s.0.0 ∷ r) (index_found s.0.1 t.0 t.1) ∙ ap (λ (r : List ℕ × List ℕ). word r.0 ∷ mark 91 ∷ whole r.1 ∷ mark 93 ∷ []) q,
+      ap is_name (ap (λ (r : List ℕ × List ℕ). r.0) (sym q)) ∙ n.1,
+    )
 
 indexed_found : (name : List ℕ) (ls : List Lexeme) (a : Argument) → indexed name ls ≡ Some a → (a.name ≡ name) × (ls ≡ written_index a.index)
 indexed_found name [] a e = let q : record { name = name; index = None } ≡ a = some_same _ a e in (sym (ap (λ (r : Argument). r.name) q), ap (λ (r : Argument). written_index r.index) q)

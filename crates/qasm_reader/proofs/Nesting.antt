@@ -53,7 +53,8 @@ levels_close depth l e h = subst (Levels depth) (sym e) (record { up = 0; down =
 
 levels_other : (depth : ℕ) (l : Lexeme) → is_mark 40 l ≡ false → is_mark 41 l ≡ false → Levels depth l
 levels_other depth l e f = record {
-  up = 0; down = 0;
+  up = 0;
+  down = 0;
   opens = λ a. let q = count_skip (is_mark 40) l a e in omega arith;
   closes = λ a. let q = count_skip (is_mark 41) l a f in omega arith;
   level = let q = ap (λ x. cond x (depth + 1) (cond (is_mark 41 l) (depth - 1) depth)) e ∙ ap (λ x. cond x (depth - 1) depth) f in omega arith;
@@ -80,6 +81,7 @@ part_none = record { closed = refl; nested = nested; inside = inside }
     nested : (before after : List Lexeme) → [] ≡ before ++ after → closing before ≤ 0 + opening before
     nested [] after e = omega arith
     nested (b ∷ bs) after e = absurd cc
+
     inside : (before after : List Lexeme) → [] ≡ before ++ (mark 44 ∷ after) → closing before < 0 + opening before
     inside [] after e = absurd cc
     inside (b ∷ bs) after e = absurd cc
@@ -96,14 +98,17 @@ part_lead depth l a e p = record { closed = closed; nested = nested; inside = in
   where
     v : Levels depth l
     v = levels depth l e
+
     closed : closing (l ∷ a) ≡ depth + opening (l ∷ a)
     closed = let c = (v).closes a in let o = (v).opens a in let h = (v).level in let q = p.closed in omega arith
+
     nested : (before after : List Lexeme) → l ∷ a ≡ before ++ after → closing before ≤ depth + opening before
     nested [] after h = omega arith
     nested (b ∷ bs) after h =
         let lb : l ≡ b = cc in let r : a ≡ bs ++ after = cc in
         let n = p.nested bs after r in
         subst (λ x. closing (x ∷ bs) ≤ depth + opening (x ∷ bs)) lb (let c = (v).closes bs in let o = (v).opens bs in let k = (v).level in omega arith)
+
     inside : (before after : List Lexeme) → l ∷ a ≡ before ++ (mark 44 ∷ after) → closing before < depth + opening before
     inside [] after h = let lb : l ≡ mark 44 = cc in let d = comma_inside depth l e lb in omega arith
     inside (b ∷ bs) after h =
@@ -132,7 +137,11 @@ scans_comma l ls p (Some q) s more e h =
     let f = more q s in
     let g : ([] ∷ q.0, q.1) ≡ p = cc in
     subst (Scans 0 (l ∷ ls)) g (record {
-      first = []; more = f.first ∷ f.more; are = ap (λ r. [] ∷ r) f.are; part = part_none; rest = (f.part, f.rest);
+      first = [];
+      more = f.first ∷ f.more;
+      are = ap (λ r. [] ∷ r) f.are;
+      part = part_none;
+      rest = (f.part, f.rest);
       joined = ap (λ x. x ∷ ls) e ∙ ap (λ r. mark 44 ∷ r) f.joined;
     })
 
@@ -147,7 +156,11 @@ scans_lead depth l ls p (Some q) s more e h =
     let f = more q s in
     let g : (lead l q.0, q.1) ≡ p = cc in
     subst (Scans depth (l ∷ ls)) g (record {
-      first = l ∷ f.first; more = f.more; are = ap (lead l) f.are; part = part_lead depth l f.first e f.part; rest = f.rest;
+      first = l ∷ f.first;
+      more = f.more;
+      are = ap (lead l) f.are;
+      part = part_lead depth l f.first e f.part;
+      rest = f.rest;
       joined = ap (λ r. l ∷ r) f.joined ∙ ap (λ r. r ++ (mark 41 ∷ q.1)) (sym (listed_led l f.first f.more));
     })
 
@@ -183,20 +196,26 @@ starts_inside depth l a p = by (ends_angle depth l) refl
   where
     close : depth ≡ 0 → l ≡ mark 41 → ⊥
     close d e = let q : closing (l ∷ []) ≤ depth + opening (l ∷ []) = p.nested (l ∷ []) a refl in let r : 1 ≤ depth + 0 = subst (λ l. closing (l ∷ []) ≤ depth + opening (l ∷ [])) e q in omega arith
+
     comma : depth ≡ 0 → l ≡ mark 44 → ⊥
     comma d e = let q : 0 < depth + 0 = p.inside [] a (ap (λ l. l ∷ a) e) in omega arith
+
     which : depth ≡ 0 → (x : Bool) → is_mark 41 l ≡ x → x || is_mark 44 l ≡ true → ⊥
     which d true h e = close d (mark_is 41 l h)
     which d false h e = comma d (mark_is 44 l e)
+
     by : (x : Bool) → ends_angle depth l ≡ x → x ≡ false
     by false h = refl
     by true h = let e = end_parts depth l h in absurd (which e.0 (is_mark 41 l) refl e.1)
 
 pub part_rest : (depth : ℕ) (l : Lexeme) (a : List Lexeme) → IsPart depth (l ∷ a) → (ends_angle depth l ≡ false) × IsPart (deeper depth l) a
-part_rest depth l a p = (starts_inside depth l a p, record {
-  closed = let v = levels depth l (starts_inside depth l a p) in let c = v.closes a in let o = v.opens a in let k = v.level in let q = p.closed in omega arith;
-  nested = λ before after h. let v = levels depth l (starts_inside depth l a p) in let c = v.closes before in let o = v.opens before in let k = v.level in
-      let q = p.nested (l ∷ before) after (ap (λ r. l ∷ r) h) in omega arith;
-  inside = λ before after h. let v = levels depth l (starts_inside depth l a p) in let c = v.closes before in let o = v.opens before in let k = v.level in
-      let q = p.inside (l ∷ before) after (ap (λ r. l ∷ r) h) in omega arith;
-})
+part_rest depth l a p = (
+  starts_inside depth l a p,
+  record {
+    closed = let v = levels depth l (starts_inside depth l a p) in let c = v.closes a in let o = v.opens a in let k = v.level in let q = p.closed in omega arith;
+    nested = λ before after h. let v = levels depth l (starts_inside depth l a p) in let c = v.closes before in let o = v.opens before in let k = v.level in
+        let q = p.nested (l ∷ before) after (ap (λ r. l ∷ r) h) in omega arith;
+    inside = λ before after h. let v = levels depth l (starts_inside depth l a p) in let c = v.closes before in let o = v.opens before in let k = v.level in
+        let q = p.inside (l ∷ before) after (ap (λ r. l ∷ r) h) in omega arith;
+  },
+)

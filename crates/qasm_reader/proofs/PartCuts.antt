@@ -11,7 +11,6 @@ led_last l [] (Some b) = refl
 led_last l (m ∷ ls) None = refl
 led_last l (m ∷ ls) (Some b) = refl
 
-
 led_cond : (l : Lexeme) (x : Bool) (ls : List Lexeme) (ps qs : List Part) (bad : Option ℕ)
     → led l (cond x (record { lexemes = ls; closed = true; bad = None } ∷ ps) qs) bad ≡ cond x (record { lexemes = l ∷ ls; closed = true; bad = None } ∷ ps) (led l qs bad)
 led_cond l true ls ps qs bad = refl
@@ -28,7 +27,7 @@ parts_cut (l ∷ ls) bad = by (is_stop Semicolon l) refl (parts_cut ls bad)
         → parts_of ls bad ≡ cond (has_stop Semicolon ls) (record { lexemes = before_stop Semicolon ls; closed = true; bad = None } ∷ parts_of (after_stop Semicolon ls) bad) (last_part ls bad)
         → cond (is_mark 59 l) (record { lexemes = []; closed = true; bad = None } ∷ parts_of ls bad) (led l (parts_of ls bad) bad)
         ≡ cond (cond (is_stop Semicolon l) true (has_stop Semicolon ls)) (record { lexemes = cond (is_stop Semicolon l) [] (l ∷ before_stop Semicolon ls); closed = true; bad = None }
-            ∷ parts_of (cond (is_stop Semicolon l) ls (after_stop Semicolon ls)) bad) (last_part (l ∷ ls) bad)
+        ∷ parts_of (cond (is_stop Semicolon l) ls (after_stop Semicolon ls)) bad) (last_part (l ∷ ls) bad)
     by true e more = rw e refl
     by false e more =
         rw e (ap (λ ps. led l ps bad) more ∙ led_cond l (has_stop Semicolon ls) (before_stop Semicolon ls) (parts_of (after_stop Semicolon ls) bad) (last_part ls bad) bad

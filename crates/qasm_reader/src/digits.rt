@@ -3,7 +3,6 @@ ghost use Rattle.std.specs.Prelude.{◌≡◌, ◌≤◌, ◌<◌, ◌+◌, ◌-
 ghost use Rattle.qasm_lex.specs.Symbols.{decimal};
 ghost use Rattle.qasm_reader.specs.Scope.{number_below};
 
-
 /// The number that digits spell, where it is below the bound. Digits may be any number, also with zeros before them.
 pub fn number_below(digits: &[u8], below: u32) -> Option<u32>
     ensures { result ≡ number_below (decimal digits.now) below }
@@ -18,5 +17,9 @@ pub fn number_below(digits: &[u8], below: u32) -> Option<u32>
         value = value * 10 + u64::from(digit.saturating_sub(b'0'));
         rest = after;
     }
-    if value < bound { Some(value as u32) } else { None }
+    if value < bound {
+        Some(value as u32)
+    } else {
+        None
+    }
 }

@@ -100,13 +100,7 @@ impl<'a> Lexemes<'a> {
         ensures { then_bytes result self.new ≡ name_at self.old }
     {
         match self.next()? {
-            Lexeme::Word(bytes) => {
-                if is_name(bytes) {
-                    Some(bytes)
-                } else {
-                    None
-                }
-            }
+            Lexeme::Word(bytes) => { if is_name(bytes) { Some(bytes) } else { None } }
             _ => None,
         }
     }

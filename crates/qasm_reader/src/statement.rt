@@ -8,7 +8,6 @@ ghost use Rattle.qasm_reader.specs.Fronts.{index_at};
 ghost use Rattle.qasm_reader.specs.Parsing.{
   seen_bytes,
   seen_pair,
-
   declaration_at,
   argument_at,
   arguments_at,
