@@ -12,8 +12,6 @@ mod lexemes;
 mod reason;
 mod registers;
 mod statement;
-#[cfg(test)]
-mod statement_tests;
 mod targets;
 mod turn;
 
