@@ -1,0 +1,16 @@
+pub mod Tokens
+pub mod Listed
+pub mod Found
+pub mod Turns
+pub mod Bounds
+pub mod Nesting
+pub mod Places
+pub mod Forms
+pub mod Written
+pub mod Names
+pub mod Resolving
+pub mod PartCuts
+pub mod Exact
+pub mod Applied
+pub mod Deciding
+pub mod Good

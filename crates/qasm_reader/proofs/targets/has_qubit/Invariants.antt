@@ -1,0 +1,12 @@
+use Rattle.std.proofs.Common.{◌≡◌, length}
+use Rattle.std.specs.List.{list_any}
+use Rattle.qasm_reader.specs.Acts.{qubits_at, wholes, places, is_among}
+use Rattle.qasm_reader.specs.Reasons.{differ, has_twice}
+use Rattle.qasm_reader.specs.Scope.{other_than, flagged}
+use Rattle.qasm_reader.proofs.targets.has_qubit.Given as goal
+
+abbrev pub invariant-loop-target : goal.invariant-loop-target
+invariant-loop-target l = is_among (qubits_at l.fn.targets l.place) l.qubit ≡ is_among (qubits_at l.rest l.place) l.qubit
+
+abbrev pub decreases-loop-target : goal.decreases-loop-target
+decreases-loop-target l = length l.rest

@@ -1,0 +1,11 @@
+pub mod Lexemes
+pub mod Statements
+pub mod Parts
+pub mod Acts
+pub mod Calls
+pub mod Reasons
+pub mod Reading
+pub mod Fronts
+pub mod Parsing
+pub mod Scope
+pub mod Tests

@@ -1,0 +1,140 @@
+//! What arguments mean, and the tests of a call on them.
+ghost use Rattle.std.specs.Prelude.{◌≡◌, ◌<◌, ◌≤◌, ◌+◌, ◌∷◌, [], map, IfOk, false};
+ghost use Rattle.std.specs.List.{list_any};
+ghost use Rattle.qasm_reader.specs.Acts.{register, target, targets, qubit_at, qubits_at, wholes, places, is_among, up_to};
+ghost use Rattle.qasm_reader.specs.Reasons.{is_unknown, is_beyond, differ, has_twice};
+ghost use Rattle.qasm_reader.specs.Scope.{other_than, repeats, flagged, touches};
+
+use crate::registers::Target;
+
+/// The qubit of an argument at a place.
+pub fn qubit_at(target: Target, place: u32) -> u64
+    ensures { result ≡ qubit_at place target }
+{
+    match target.index {
+        Some(index) => u64::from(target.register.first) + u64::from(index),
+        None => u64::from(target.register.first) + u64::from(place),
+    }
+}
+
+/// Whether the qubit is one of theirs at the place.
+fn has_qubit(targets: &[Target], place: u32, qubit: u64) -> bool
+    ensures { result ≡ is_among (qubits_at targets.now place) qubit }
+{
+    let mut rest = targets;
+    while let Some((target, after)) = rest.split_first() {
+        if qubit == qubit_at(*target, place) {
+            return true;
+        }
+        rest = after;
+    }
+    false
+}
+
+/// Whether they have a qubit twice at the place.
+pub fn has_twice(targets: &[Target], place: u32) -> bool
+    ensures { result ≡ has_twice (qubits_at targets.now place) }
+{
+    let mut rest = targets;
+    while let Some((target, after)) = rest.split_first() {
+        if has_qubit(after, place, qubit_at(*target, place)) {
+            return true;
+        }
+        rest = after;
+    }
+    false
+}
+
+/// How many places they have together.
+pub fn places(targets: &[Target]) -> u32
+    ensures { result ≡ places (wholes targets.now) }
+{
+    let mut rest = targets;
+    while let Some((target, after)) = rest.split_first() {
+        match target.index {
+            None => return target.register.size,
+            Some(_) => rest = after,
+        }
+    }
+    1
+}
+
+/// Whether a whole register has another size.
+fn has_other_size(targets: &[Target], size: u32) -> bool
+    ensures { result ≡ list_any (other_than size) (wholes targets.now) }
+{
+    let mut rest = targets;
+    while let Some((target, after)) = rest.split_first() {
+        match target.index {
+            None => {
+                if target.register.size != size {
+                    return true;
+                }
+                rest = after;
+            }
+            Some(_) => rest = after,
+        }
+    }
+    false
+}
+
+/// Whether two whole registers among them differ in size.
+pub fn sizes_differ(targets: &[Target]) -> bool
+    ensures { result ≡ differ (wholes targets.now) }
+{
+    let mut rest = targets;
+    while let Some((target, after)) = rest.split_first() {
+        match target.index {
+            None => return has_other_size(after, target.register.size),
+            Some(_) => rest = after,
+        }
+    }
+    false
+}
+
+/// Whether one of the repeated calls has a qubit twice.
+pub fn repeats(targets: &[Target]) -> bool
+    ensures { result ≡ repeats targets.now }
+{
+    for place in 0..places(targets) {
+        if has_twice(targets, place) {
+            return true;
+        }
+    }
+    false
+}
+
+// Whether one of their qubits at the place has a flag.
+fn touches_at(flags: &[bool], targets: &[Target], place: u32) -> bool
+    ensures { result ≡ list_any (flagged flags.now) (qubits_at targets.now place) }
+{
+    let mut rest = targets;
+    while let Some((target, after)) = rest.split_first() {
+        if has_flag(flags, qubit_at(*target, place)) {
+            return true;
+        }
+        rest = after;
+    }
+    false
+}
+
+fn has_flag(flags: &[bool], qubit: u64) -> bool
+    ensures { result ≡ flagged flags.now qubit }
+{
+    match flags.get(qubit as usize) {
+        Some(flag) => *flag,
+        None => false,
+    }
+}
+
+/// Whether one of the repeated calls has a qubit with a flag.
+pub fn touches(flags: &[bool], targets: &[Target]) -> bool
+    ensures { result ≡ touches flags.now targets.now }
+{
+    for place in 0..places(targets) {
+        if touches_at(flags, targets, place) {
+            return true;
+        }
+    }
+    false
+}
