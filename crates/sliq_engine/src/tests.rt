@@ -1,3 +1,5 @@
+ghost use Rattle.std.specs.Prelude.{◌≤◌};
+
 use crate::{Cause, Ended, end, one_cause, one_output, one_plain_reading, run, small_outputs};
 use bit_lists::OutOfMemory;
 use circuit_model::product_by_last_gate;
