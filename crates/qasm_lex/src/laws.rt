@@ -1,7 +1,11 @@
 //! Laws of the definitions, each the contract of a call that does nothing.
-ghost use Rattle.std.specs.Prelude.{◌≡◌, ◌∷◌, List, Option, ℕ, ℤ, pos, ◌≤ℤ◌, ◌*ℤ◌, unsigned_abs};
+ghost use Rattle.std.specs.Prelude.{◌≡◌, ◌≤◌, ◌∷◌, List, length, Option, Result, Ok, ℕ, ℤ, pos, ◌≤ℤ◌, ◌*ℤ◌, unsigned_abs};
 ghost use Rattle.std.specs.Int.{IsGcd};
-ghost use Rattle.qasm_lex.specs.Fractions.{lowest};
+ghost use Rattle.qasm_lex.specs.Fractions.{Ratio, lowest};
+ghost use Rattle.qasm_lex.specs.Angles.{IsAnswer};
+ghost use Rattle.qasm_lex.specs.Quarters.{IsQuarters};
+ghost use Rattle.qasm_lex.specs.declared.symbol.Symbol.{Symbol};
+ghost use Rattle.qasm_lex.specs.declared.refusal.AngleRefusal.{AngleRefusal};
 ghost use Rattle.qasm_lex.specs.Lexemes.{AreTokens, Begins};
 ghost use Rattle.qasm_lex.specs.Expressions.{Tree, Formed, spelling};
 ghost use Rattle.qasm_lex.specs.declared.token.Token.{Token};
@@ -16,6 +20,11 @@ pub fn every_text_has_tokens()
 /// A text has one list of tokens and one bad place.
 pub fn tokens_are_unique()
     ensures { (text : List ℕ) (list more : List Token) (bad worse : Option ℕ) → AreTokens text list bad → AreTokens text more worse → (list ≡ more) × (bad ≡ worse) }
+{}
+
+/// A text has at most as many tokens as bytes.
+pub fn tokens_are_at_most_the_bytes()
+    ensures { (text : List ℕ) (list : List Token) (bad : Option ℕ) → AreTokens text list bad → length list ≤ length text }
 {}
 
 /// Where a piece of a text could begin, two slashes begin a comment.
@@ -39,4 +48,24 @@ pub fn lowest_terms()
 /// Fractions of one value have the same lowest terms.
 pub fn lowest_terms_are_unique()
     ensures { (n d m e : ℤ) → pos 1 ≤ℤ d → pos 1 ≤ℤ e → n *ℤ e ≡ m *ℤ d → lowest n d ≡ lowest m e }
+{}
+
+/// Symbols of an angle have an answer.
+pub fn every_angle_has_an_answer()
+    ensures { (symbols : List Symbol) → (answer : Result Ratio AngleRefusal) × IsAnswer symbols answer }
+{}
+
+/// Symbols have one answer.
+pub fn angles_have_one_answer()
+    ensures { (symbols : List Symbol) (a b : Result Ratio AngleRefusal) → IsAnswer symbols a → IsAnswer symbols b → a ≡ b }
+{}
+
+/// A fraction that is answered has a positive denominator.
+pub fn angles_have_positive_denominators()
+    ensures { (symbols : List Symbol) (f : Ratio) → IsAnswer symbols (Ok f) → pos 1 ≤ℤ f.den }
+{}
+
+/// A fraction is at most one number of quarter turns below two full turns.
+pub fn quarters_are_unique()
+    ensures { (f : Ratio) (m k : ℕ) → pos 1 ≤ℤ f.den → IsQuarters f m → IsQuarters f k → m ≡ k }
 {}
