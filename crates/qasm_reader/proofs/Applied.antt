@@ -1,5 +1,5 @@
 -- Gates place by place.
-use Rattle.std.proofs.Common.{◌≡◌, ◌∙◌, sym, ap, refl, subst, ◌≤◌, ◌<◌, ℕ, zero, suc, ◌+◌, List, [], ◌∷◌, ◌++◌, length, map, replicate, get_or, All, append_assoc, arith}
+use Rattle.std.proofs.Common.{◌≡◌, ◌∙◌, ap, refl, ◌≤◌, ◌<◌, ℕ, zero, suc, ◌+◌, List, [], ◌∷◌, ◌++◌, length, replicate, get_or, All, arith}
 use Rattle.std.specs.List.{flat_map}
 use Rattle.std.proofs.lemmas.List.{length-map}
 use Rattle.std.proofs.Math.ListN.{get_or-map}
@@ -7,19 +7,15 @@ use Rattle.std.proofs.lemmas.List.Elements.{All-get_or}
 use Rattle.std.proofs.lemmas.Grind.{flat_map-append}
 use Rattle.gate_set.specs.declared.kind.Kind.{Kind}
 use Rattle.gate_set.specs.declared.gate.Gate.{Gate}
-use Rattle.gate_set.specs.Matrix.{arity_of}
 use Rattle.gate_set.specs.Shape.{IsPlaced}
 use Rattle.gate_set.proofs.MatrixLemmas.{arity_of-few}
 use Rattle.qasm_reader.specs.declared.registers.Target.{Target}
-use Rattle.qasm_reader.specs.Acts.{qubit_at, qubits_at, up_to, product, places, wholes}
+use Rattle.qasm_reader.specs.Acts.{qubit_at, qubits_at, up_to}
+use Rattle.std.proofs.lemmas.List.{append-nil}
 
 -- the gates of the places below a number
 abbrev pub product_up_to : Kind → ℕ → List Target → ℕ → List Gate
 product_up_to kind times ts n = flat_map (λ place. replicate times (record { kind = kind; on = qubits_at ts place })) (up_to n)
-
-pub append_none : {X : Type 0} (xs : List X) → xs ++ [] ≡ xs
-append_none [] = refl
-append_none (x ∷ xs) = ap (λ r. x ∷ r) (append_none xs)
 
 -- those of one more place
 pub product_next : (kind : Kind) (times : ℕ) (ts : List Target) (place next : ℕ) → next ≡ place + 1
@@ -28,7 +24,7 @@ product_next kind times ts place next e =
     let s : next ≡ suc place = omega arith in
     ap (product_up_to kind times ts) s
     ∙ flat_map-append (λ place. replicate times (record { kind = kind; on = qubits_at ts place })) (up_to place) (place ∷ [])
-    ∙ ap (λ r. product_up_to kind times ts place ++ r) (append_none _)
+    ∙ ap (λ r. product_up_to kind times ts place ++ r) (append-nil _)
 
 -- one more of the same
 pub replicate_next : {X : Type 0} (n next : ℕ) (x : X) → next ≡ n + 1 → replicate next x ≡ replicate n x ++ x ∷ []

@@ -1,5 +1,5 @@
 -- The first test that holds tells the refusal of a statement.
-use Rattle.std.proofs.Common.{◌≡◌, ◌∙◌, sym, ap, refl, subst, ◌≤◌, ◌<◌, ◌⊎◌, inl, inr, ℕ, zero, suc, ◌+◌, Bool, true, false, cond, nat_lt, List, [], ◌∷◌, ◌++◌, length, arith, Option, Some, None}
+use Rattle.std.proofs.Common.{◌≡◌, ◌∙◌, sym, ap, refl, subst, ◌≤◌, ◌<◌, ◌⊎◌, inl, inr, ℕ, suc, Bool, true, false, List, [], ◌∷◌, ◌++◌, length, arith, Option, Some, None}
 use Rattle.std.proofs.lemmas.Bool.Decides.{Decides-ltb}
 use Rattle.gate_set.specs.declared.kind.Kind.{Kind}
 use Rattle.qasm_lex.specs.declared.refusal.AngleRefusal.{AngleRefusal}
@@ -11,8 +11,8 @@ use Rattle.qasm_reader.specs.declared.reason.Why.{Why}
 use Rattle.qasm_reader.specs.declared.reason.Why.TheVariants.{BadByte, NoVersion, NotAStatement, OutOfProfile, UnknownName, Redeclared, UnknownRegister, IndexOutOfRange, WrongCount, SizesDiffer, RepeatedQubit, AngleRefused, OffGrid, Measured, TooManyQubits, TooManyGates}
 use Rattle.qasm_reader.specs.Lexemes.{Lexeme}
 use Rattle.qasm_reader.specs.Statements.{Statement, version, include, qubits, bits, barrier, measure, call, left_out, Argument}
-use Rattle.qasm_reader.specs.Acts.{Act, nothing, declares, measures, applies, registers, measured, qubit_count, gates}
-use Rattle.qasm_reader.specs.Calls.{builtin, turn_kind, turn_times, IsTurned, Calls, plain, turned, Does}
+use Rattle.qasm_reader.specs.Acts.{Act, qubit_count, gates}
+use Rattle.qasm_reader.specs.Calls.{builtin, Calls, plain, turned, Does}
 use Rattle.qasm_reader.specs.Parts.{Part, Has}
 use Rattle.qasm_reader.specs.Reasons.{Breaks, Holds, Refuses, IsFree, HasAngle, order}
 use Rattle.qasm_reader.specs.Tests.{AngleIs, has_angle, is_refused, is_off_grid, turn_act, call_act, act_of, exceeds, both, tests, refusal_of, reasons, first_of}

@@ -1,9 +1,9 @@
 -- Reading a statement is exact both ways.
-use Rattle.std.proofs.Common.{◌≡◌, ◌∙◌, sym, ap, ℕ, List, Option, Some, None, Result, Ok, Err, IfOk, IfSome}
+use Rattle.std.proofs.Common.{◌≡◌, ◌∙◌, sym, ap, List, Option, Some, None, Result, Ok, Err, IfOk, IfSome}
 use Rattle.qasm_reader.specs.Lexemes.{Lexeme}
 use Rattle.qasm_reader.specs.Statements.{Statement, Formed, written}
 use Rattle.qasm_reader.specs.Parsing.{statement_at}
-use Rattle.qasm_reader.proofs.Forms.{Reads, statement_found}
+use Rattle.qasm_reader.proofs.Forms.{statement_found}
 use Rattle.qasm_reader.proofs.Written.{statement_written}
 
 some_exact : (ls : List Lexeme) (x : Option Statement) → x ≡ statement_at ls → IfSome x (λ s. Formed s × (ls ≡ written s))

@@ -1,15 +1,15 @@
 -- The statement that is read is written so.
-use Rattle.std.proofs.Common.{◌≡◌, ◌∙◌, sym, ap, refl, subst, ◌≤◌, ◌<◌, ℕ, zero, suc, ◌+◌, Bool, true, false, cond, ◌||◌, ◌&&◌, not, List, [], ◌∷◌, ◌++◌, length, arith, Option, Some, None, append_assoc, codes}
+use Rattle.std.proofs.Common.{◌≡◌, ◌∙◌, sym, ap, refl, subst, ℕ, Bool, true, false, cond, ◌||◌, ◌&&◌, List, [], ◌∷◌, ◌++◌, arith, Option, Some, None, append_assoc, codes}
 use Rattle.std.specs.List.{AllByRecursion, list_any}
 use Rattle.std.specs.Str.{bytes_eq}
 use Rattle.std.proofs.lemmas.Slice.Eq.{bytes_eq-Decides}
 use Rattle.qasm_reader.specs.declared.lexemes.Stop.TheVariants.{To}
-use Rattle.qasm_reader.specs.Lexemes.{Lexeme, word, whole, real, quoted, arrow, equal, mark, is_mark}
-use Rattle.qasm_reader.specs.Statements.{Argument, Statement, version, include, qubits, bits, barrier, measure, call, left_out, IsArgument, AreArguments, AreAngles, IsAngle, Formed, written, written_argument, written_angles, written_each, listed, is_name, is_left_out, opening, closing}
-use Rattle.qasm_reader.specs.Fronts.{and_then, mark_at, at_end, is_nothing, is_stop, before_stop, has_stop, after_stop}
+use Rattle.qasm_reader.specs.Lexemes.{Lexeme, word, whole, real, quoted, arrow, equal, mark}
+use Rattle.qasm_reader.specs.Statements.{Statement, version, include, qubits, bits, barrier, measure, call, left_out, AreAngles, IsAngle, Formed, written, written_argument, written_angles, listed, is_name, is_left_out}
+use Rattle.qasm_reader.specs.Fronts.{and_then, mark_at, is_nothing, before_stop, has_stop, after_stop}
 use Rattle.qasm_reader.specs.Parsing.{argument_at, arguments_at, scan, filled, angles_from, angles_at, declaration_at, is_version, included_at, measure_at, call_from, call_at, after_word, statement_at}
 use Rattle.qasm_reader.proofs.Found.{and_then_some, cond_some, some_same, mark_found, end_found, declaration_found, argument_found, arguments_found}
-use Rattle.qasm_reader.proofs.Nesting.{IsPart, Scans, scan_found}
+use Rattle.qasm_reader.proofs.Nesting.{IsPart, scan_found}
 
 -- bytes that pass the test are the same
 bytes_same : (a b : List ℕ) → bytes_eq a b ≡ true → a ≡ b

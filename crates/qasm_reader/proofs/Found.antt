@@ -1,12 +1,11 @@
 -- What is read is written so.
-use Rattle.std.proofs.Common.{◌≡◌, ◌∙◌, sym, ap, refl, subst, ◌≤◌, ◌<◌, ℕ, zero, suc, ◌+◌, ◌-◌, Bool, true, false, cond, ◌||◌, ◌&&◌, nat_eq, List, [], ◌∷◌, ◌++◌, length, filter, arith, Option, Some, None, append_assoc, codes}
-use Rattle.std.specs.List.{AllByRecursion, list_any}
-use Rattle.std.specs.Str.{bytes_eq}
-use Rattle.qasm_reader.specs.declared.lexemes.Stop.TheVariants.{Semicolon, Comma, To}
-use Rattle.qasm_reader.specs.Lexemes.{Lexeme, word, whole, real, quoted, arrow, equal, mark, is_mark}
-use Rattle.qasm_reader.specs.Statements.{Argument, Statement, IsArgument, AreArguments, written_argument, written_index, written_each, listed, is_name, opening, closing, IsAngle}
-use Rattle.qasm_reader.specs.Fronts.{and_then, name_at, digits_at, mark_at, at_end, index_at, is_nothing, is_stop, before_stop, has_stop, after_stop, ends_angle, deeper}
-use Rattle.qasm_reader.specs.Parsing.{lead, split, indexed, argument_at, gather, arguments_at, lead_angle, next_angle, scan, filled, declaration_at}
+use Rattle.std.proofs.Common.{◌≡◌, ◌∙◌, sym, ap, refl, subst, ◌<◌, ℕ, Bool, true, false, cond, nat_eq, List, [], ◌∷◌, length, arith, Option, Some, None}
+use Rattle.std.specs.List.{AllByRecursion}
+use Rattle.qasm_reader.specs.declared.lexemes.Stop.TheVariants.{Comma}
+use Rattle.qasm_reader.specs.Lexemes.{Lexeme, word, whole, real, quoted, arrow, equal, mark}
+use Rattle.qasm_reader.specs.Statements.{Argument, IsArgument, AreArguments, written_argument, written_index, written_each, listed, is_name}
+use Rattle.qasm_reader.specs.Fronts.{and_then, name_at, digits_at, mark_at, at_end, index_at, is_stop, before_stop, has_stop, after_stop}
+use Rattle.qasm_reader.specs.Parsing.{lead, split, indexed, argument_at, gather, arguments_at, declaration_at}
 use Rattle.qasm_reader.proofs.Listed.{split_cut}
 use Rattle.std.proofs.lemmas.Bool.{eqb-true}
 

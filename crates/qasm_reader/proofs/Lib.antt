@@ -1,3 +1,4 @@
+pub mod Facts
 pub mod Tokens
 pub mod Listed
 pub mod Found
@@ -14,3 +15,10 @@ pub mod Exact
 pub mod Applied
 pub mod Deciding
 pub mod Good
+pub mod Growing
+pub mod Placing
+pub mod Reasoning
+pub mod Onward
+pub mod Following
+pub mod OneReading
+pub mod EveryReading

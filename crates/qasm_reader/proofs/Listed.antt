@@ -1,8 +1,8 @@
 -- Arguments between commas and angles up to a parenthesis, one after the other.
-use Rattle.std.proofs.Common.{◌≡◌, ◌∙◌, sym, ap, refl, ◌≤◌, ◌<◌, ℕ, zero, suc, ◌+◌, Bool, true, false, ◌||◌, cond, List, [], ◌∷◌, ◌++◌, length, arith, Option, Some, None, append_assoc}
+use Rattle.std.proofs.Common.{◌≡◌, ◌∙◌, sym, ap, refl, ◌<◌, ℕ, Bool, true, false, ◌||◌, cond, List, [], ◌∷◌, ◌++◌, length, arith, Option, Some, None, append_assoc}
 use Rattle.std.specs.List.{list_any}
 use Rattle.qasm_reader.specs.declared.lexemes.Stop.{Stop}
-use Rattle.qasm_reader.specs.declared.lexemes.Stop.TheVariants.{Semicolon, Comma, To}
+use Rattle.qasm_reader.specs.declared.lexemes.Stop.TheVariants.{Comma}
 use Rattle.qasm_reader.specs.Lexemes.{Lexeme, is_mark}
 use Rattle.qasm_reader.specs.Statements.{Argument}
 use Rattle.qasm_reader.specs.Fronts.{and_then, is_stop, before_stop, has_stop, after_stop, ends_angle, deeper, angle_at, led_by, is_nothing}

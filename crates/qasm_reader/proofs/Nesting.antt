@@ -1,12 +1,11 @@
 -- Parentheses of angles: the scan of an angle ends where its parentheses balance.
-use Rattle.std.proofs.Common.{◌≡◌, ◌∙◌, sym, ap, refl, subst, ◌≤◌, ◌<◌, ℕ, zero, suc, ◌+◌, ◌-◌, Bool, true, false, cond, ◌||◌, ◌&&◌, nat_eq, List, [], ◌∷◌, ◌++◌, length, filter, arith, Option, Some, None, append_assoc}
-use Rattle.std.specs.List.{AllByRecursion, list_any}
+use Rattle.std.proofs.Common.{◌≡◌, ◌∙◌, sym, ap, refl, subst, ◌≤◌, ◌<◌, ℕ, zero, suc, ◌+◌, ◌-◌, Bool, true, false, cond, ◌||◌, ◌&&◌, nat_eq, List, [], ◌∷◌, ◌++◌, length, filter, arith, Option, Some, None}
+use Rattle.std.specs.List.{AllByRecursion}
 use Rattle.std.proofs.lemmas.Bool.{eqb-true}
-use Rattle.std.proofs.lemmas.Bool.Decides.{nat_tests}
 use Rattle.qasm_reader.specs.Lexemes.{Lexeme, word, whole, real, quoted, arrow, equal, mark, is_mark}
-use Rattle.qasm_reader.specs.Statements.{listed, opening, closing, IsAngle}
-use Rattle.qasm_reader.specs.Fronts.{is_nothing, ends_angle, deeper}
-use Rattle.qasm_reader.specs.Parsing.{lead, lead_angle, next_angle, scan, filled}
+use Rattle.qasm_reader.specs.Statements.{listed, opening, closing}
+use Rattle.qasm_reader.specs.Fronts.{ends_angle, deeper}
+use Rattle.qasm_reader.specs.Parsing.{lead, lead_angle, next_angle, scan}
 
 one : Bool → ℕ
 one true = 1

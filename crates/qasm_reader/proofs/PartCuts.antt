@@ -1,5 +1,5 @@
 -- The statements of a text, one after the other.
-use Rattle.std.proofs.Common.{◌≡◌, ◌∙◌, sym, ap, refl, ℕ, Bool, true, false, cond, List, [], ◌∷◌, ◌++◌, Option, Some, None}
+use Rattle.std.proofs.Common.{◌≡◌, ◌∙◌, ap, refl, ℕ, Bool, true, false, cond, List, [], ◌∷◌, Option, Some, None}
 use Rattle.qasm_reader.specs.declared.lexemes.Stop.TheVariants.{Semicolon}
 use Rattle.qasm_reader.specs.Lexemes.{Lexeme, is_mark}
 use Rattle.qasm_reader.specs.Fronts.{is_stop, before_stop, has_stop, after_stop}

@@ -7,6 +7,8 @@ use Rattle.qasm_reader.specs.Statements.{Argument}
 use Rattle.qasm_reader.specs.Fronts.{and_then}
 use Rattle.qasm_reader.specs.Parsing.{after_some}
 use Rattle.qasm_reader.specs.Scope.{target_in, resolve}
+use Rattle.std.proofs.lemmas.List.{append-nil}
+use Rattle.qasm_reader.proofs.Facts.{neither}
 
 none_left : {X : Type 0} (xs : List X) (i : ℕ) → length xs ≤ i → drop i xs ≡ []
 none_left [] zero h = refl
@@ -14,17 +16,9 @@ none_left [] (suc i) h = refl
 none_left (x ∷ xs) zero h = absurd (omega arith)
 none_left (x ∷ xs) (suc i) h = none_left xs i (omega arith)
 
-append_none : {X : Type 0} (xs : List X) → xs ++ [] ≡ xs
-append_none [] = refl
-append_none (x ∷ xs) = ap (λ r. x ∷ r) (append_none xs)
-
 or_true : (x : Bool) → x || true ≡ true
 or_true true = refl
 or_true false = refl
-
-or_false : (x y : Bool) → x || y ≡ false → (x ≡ false) × (y ≡ false)
-or_false true y e = absurd cc
-or_false false y e = (refl, e)
 
 module _ (all : List (List ℕ × Register)) where
   pub resolve_start : (arguments : List Argument) → resolve all arguments ≡ after_some [] (resolve all arguments)
@@ -58,7 +52,7 @@ module _ (all : List (List ℕ × Register)) where
       ∙ ap (λ m. after_some (done ++ t ∷ []) (resolve all (drop m arguments))) s
 
   pub end_at : (done : List Target) (arguments : List Argument) (i : ℕ) → length arguments ≤ i → after_some done (resolve all (drop i arguments)) ≡ Some done
-  end_at done arguments i h = ap (λ r. after_some done (resolve all r)) (none_left arguments i h) ∙ ap Some (append_none done)
+  end_at done arguments i h = ap (λ r. after_some done (resolve all r)) (none_left arguments i h) ∙ ap Some (append-nil done)
 
 module _ (p : Argument → Bool) where
   pub any_at : (arguments : List Argument) (i : ℕ) (a : Argument) → i < length arguments → get_or arguments i a ≡ a → p a ≡ true → list_any p arguments ≡ true
@@ -73,9 +67,9 @@ module _ (p : Argument → Bool) where
       go : (arguments : List Argument) (i : ℕ) → i < length arguments → get_or arguments i a ≡ a → list_any p (take i arguments) ≡ false → list_any p (take (suc i) arguments) ≡ false
       go [] i h g e = absurd (omega arith)
       go (x ∷ xs) zero h g e = ap (λ y. p y || false) g ∙ ap (λ b. b || false) f
-      go (x ∷ xs) (suc i) h g e = let q = or_false (p x) (list_any p (take i xs)) e in ap (λ b. b || list_any p (take (suc i) xs)) q.0 ∙ go xs i (omega arith) g q.1
+      go (x ∷ xs) (suc i) h g e = let q = neither (p x) (list_any p (take i xs)) e in ap (λ b. b || list_any p (take (suc i) xs)) q.0 ∙ go xs i (omega arith) g q.1
 
   pub any_end : (arguments : List Argument) (i : ℕ) → length arguments ≤ i → list_any p (take i arguments) ≡ false → list_any p arguments ≡ false
   any_end [] i h e = refl
   any_end (x ∷ xs) zero h e = absurd (omega arith)
-  any_end (x ∷ xs) (suc i) h e = let q = or_false (p x) (list_any p (take i xs)) e in ap (λ b. b || list_any p xs) q.0 ∙ any_end xs i (omega arith) q.1
+  any_end (x ∷ xs) (suc i) h e = let q = neither (p x) (list_any p (take i xs)) e in ap (λ b. b || list_any p xs) q.0 ∙ any_end xs i (omega arith) q.1

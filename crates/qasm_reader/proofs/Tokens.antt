@@ -1,11 +1,10 @@
 -- Parts of the tokens of a text, and their lexemes.
-use Rattle.std.proofs.Common.{◌≡◌, ◌∙◌, sym, ap, refl, subst, ◌≤◌, ◌<◌, ℕ, zero, suc, ◌+◌, ◌-◌, Bool, true, false, ◌&&◌, ◌||◌, cond, nat_eq, nat_lt, List, [], ◌∷◌, ◌++◌, length, take, drop, map, arith, Option, Some, None}
-use Rattle.std.specs.List.{AllByRecursion}
+use Rattle.std.proofs.Common.{◌≡◌, ◌∙◌, sym, ap, refl, subst, ◌≤◌, ℕ, suc, ◌+◌, ◌-◌, Bool, true, false, ◌&&◌, ◌||◌, cond, nat_eq, nat_lt, List, [], ◌∷◌, ◌++◌, length, take, drop, arith, Option, Some, None}
 use Rattle.qasm_lex.specs.declared.token.Token.{Token}
 use Rattle.qasm_lex.specs.declared.token.TokenKind.{TokenKind}
 use Rattle.qasm_lex.specs.declared.token.TokenKind.TheVariants.{Word, Whole, Real, Text, Arrow, Equal, Mark}
 use Rattle.qasm_lex.specs.Lexemes.{AreOfText}
-use Rattle.qasm_lex.proofs.AngleLemmas.{tokens_spelled, IsTokenOf}
+use Rattle.qasm_lex.proofs.AngleLemmas.{tokens_spelled}
 use Rattle.qasm_lex.proofs.TextTokens.{part_of_text}
 use Rattle.std.proofs.lemmas.List.{take-append-drop}
 use Rattle.std.proofs.lemmas.Bool.Decides.{nat_tests}
@@ -17,22 +16,19 @@ use Rattle.qasm_lex.specs.Symbols.{symbol_of}
 use Rattle.qasm_lex.specs.Angles.{symbols_of}
 use Rattle.qasm_reader.specs.Lexemes.{is_mark, spelling, symbols}
 use Rattle.qasm_reader.specs.Fronts.{is_stop, ends_kind, before_stop, has_stop, after_stop, stop_place, ends_angle, deeper, plus, angle_place, angle_at, led_by}
-
-append_none : {X : Type 0} (xs : List X) → xs ++ [] ≡ xs
-append_none [] = refl
-append_none (x ∷ xs) = ap (λ r. x ∷ r) (append_none xs)
+use Rattle.std.proofs.lemmas.List.{append-nil}
 
 -- the tokens after some
 pub later_of_text : (text : List ℕ) (n : ℕ) (tokens : List Token) → AreOfText text tokens → AreOfText text (drop n tokens)
 later_of_text text n tokens a =
-    part_of_text text (take n tokens) (drop n tokens) [] (subst (AreOfText text) (sym (ap (λ r. take n tokens ++ r) (append_none (drop n tokens)) ∙ take-append-drop n tokens)) a)
+    part_of_text text (take n tokens) (drop n tokens) [] (subst (AreOfText text) (sym (ap (λ r. take n tokens ++ r) (append-nil (drop n tokens)) ∙ take-append-drop n tokens)) a)
 
 -- and those before
 pub earlier_of_text : (text : List ℕ) (n : ℕ) (tokens : List Token) → AreOfText text tokens → AreOfText text (take n tokens)
 earlier_of_text text n tokens a = part_of_text text [] (take n tokens) (drop n tokens) (subst (AreOfText text) (sym (take-append-drop n tokens)) a)
 
 pub rest_of_text : (text : List ℕ) (t : Token) (tokens : List Token) → AreOfText text (t ∷ tokens) → AreOfText text tokens
-rest_of_text text t tokens a = part_of_text text (t ∷ []) tokens [] (subst (AreOfText text) (sym (ap (λ r. t ∷ r) (append_none tokens))) a)
+rest_of_text text t tokens a = part_of_text text (t ∷ []) tokens [] (subst (AreOfText text) (sym (ap (λ r. t ∷ r) (append-nil tokens))) a)
 
 -- the first token is within the text
 pub first_within : (text : List ℕ) (t : Token) (tokens : List Token) → AreOfText text (t ∷ tokens) → (t.from ≤ t.to) × (t.to ≤ length text)

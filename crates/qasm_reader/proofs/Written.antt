@@ -1,13 +1,13 @@
 -- What is written as a formed statement is read as it.
-use Rattle.std.proofs.Common.{◌≡◌, ◌∙◌, sym, ap, refl, subst, ◌≤◌, ◌<◌, ℕ, zero, suc, ◌+◌, ◌-◌, Bool, true, false, cond, ◌||◌, ◌&&◌, nat_eq, List, [], ◌∷◌, ◌++◌, length, filter, arith, Option, Some, None, append_assoc, codes}
+use Rattle.std.proofs.Common.{◌≡◌, ◌∙◌, sym, ap, refl, ◌<◌, ℕ, Bool, true, false, cond, ◌||◌, List, [], ◌∷◌, ◌++◌, length, arith, Option, Some, None, append_assoc, codes}
 use Rattle.std.specs.List.{AllByRecursion, list_any}
 use Rattle.std.specs.Str.{bytes_eq}
 use Rattle.std.proofs.lemmas.Slice.Eq.{bytes_eq-Decides}
 use Rattle.qasm_reader.specs.declared.lexemes.Stop.TheVariants.{To}
 use Rattle.qasm_reader.specs.Lexemes.{Lexeme, word, whole, real, quoted, arrow, equal, mark, is_mark}
-use Rattle.qasm_reader.specs.Statements.{Argument, Statement, version, include, qubits, bits, barrier, measure, call, left_out, IsArgument, AreArguments, AreAngles, IsAngle, Formed, written, written_argument, written_index, written_angles, written_each, listed, is_name, is_left_out, opening, closing}
-use Rattle.qasm_reader.specs.Fronts.{and_then, name_at, mark_at, index_at, at_end, is_nothing, is_stop, before_stop, has_stop, after_stop, ends_angle, deeper}
-use Rattle.qasm_reader.specs.Parsing.{split, lead, gather, argument_at, indexed, arguments_at, scan, lead_angle, next_angle, filled, angles_from, angles_at, declaration_at, is_version, included_at, measure_at, call_from, call_at, after_word, statement_at}
+use Rattle.qasm_reader.specs.Statements.{Argument, Statement, version, include, qubits, bits, barrier, measure, call, left_out, IsArgument, AreArguments, AreAngles, IsAngle, Formed, written, written_argument, written_index, written_angles, written_each, listed, is_name, is_left_out}
+use Rattle.qasm_reader.specs.Fronts.{and_then, mark_at, index_at, is_nothing, before_stop, has_stop, after_stop, deeper}
+use Rattle.qasm_reader.specs.Parsing.{split, gather, argument_at, indexed, arguments_at, scan, lead_angle, next_angle, filled, angles_from, angles_at, declaration_at, is_version, included_at, measure_at, call_from, call_at, after_word, statement_at}
 use Rattle.qasm_reader.proofs.Nesting.{IsPart, part_rest}
 
 argument_by : (name : List ℕ) (index : Option (List ℕ)) → is_name name ≡ true → argument_at (word name ∷ written_index index) ≡ Some (record { name = name; index = index })

@@ -1,5 +1,5 @@
 -- The gates that have names, and what their calls do.
-use Rattle.std.specs.Prelude.{◌≡◌, ℕ, ◌-◌, ◌<◌, ◌≤◌, Bool, true, false, cond, nat_eq, nat_le, List, [], ◌∷◌, map, length, Option, Some, None, Ok, Err, codes}
+use Rattle.std.specs.Prelude.{◌≡◌, ℕ, ◌-◌, true, false, cond, nat_eq, nat_le, List, [], ◌∷◌, Option, Some, Ok, Err, codes}
 use Rattle.std.specs.Str.{bytes_eq}
 use Rattle.std.specs.Map.{lookup}
 use Rattle.gate_set.specs.declared.kind.Kind.{Kind}
@@ -14,7 +14,7 @@ use Rattle.qasm_reader.specs.declared.builtin.Builtin.TheVariants.{Gate, Turn}
 use Rattle.qasm_reader.specs.declared.turn.Turned.{Turned}
 use Rattle.qasm_reader.specs.declared.turn.Turned.TheVariants.{Refused, OffGrid, Quarters}
 use Rattle.qasm_reader.specs.Lexemes.{Lexeme, symbols}
-use Rattle.qasm_reader.specs.Statements.{Statement, version, include, qubits, bits, barrier, measure, call, left_out, Argument}
+use Rattle.qasm_reader.specs.Statements.{Statement, qubits, bits, measure, call, Argument}
 use Rattle.qasm_reader.specs.Acts.{Act, nothing, declares, measures, applies}
 
 -- OpenQASM 2.0's standard gates that are exact here, by name

@@ -1,16 +1,14 @@
 -- Words that only the clauses of private functions cite: reading from the front of lexemes.
-use Rattle.std.specs.Prelude.{◌≡◌, ℕ, ◌+◌, ◌-◌, Bool, true, false, ◌&&◌, ◌||◌, not, cond, nat_eq, List, [], ◌∷◌, ◌++◌, Option, Some, None, codes}
-use Rattle.std.specs.Str.{bytes_eq}
+use Rattle.std.specs.Prelude.{ℕ, ◌+◌, ◌-◌, Bool, true, false, ◌&&◌, ◌||◌, cond, nat_eq, List, [], ◌∷◌, Option, Some, None}
 use Rattle.std.specs.Borrow.{Bor}
 use Rattle.qasm_lex.specs.declared.token.Token.{Token}
 use Rattle.qasm_lex.specs.declared.token.TokenKind.{TokenKind}
-use Rattle.qasm_lex.specs.declared.token.TokenKind.TheVariants.{Word, Whole, Real, Text, Arrow, Equal, Mark}
 use Rattle.qasm_reader.specs.declared.lexemes.Lexeme.{Lexeme as Piece}
 use Rattle.qasm_reader.specs.declared.lexemes.Lexeme.TheVariants.{Word as PieceWord, Whole as PieceWhole, Real as PieceReal, Quoted as PieceQuoted, Arrow as PieceArrow, Equal as PieceEqual, Mark as PieceMark}
 use Rattle.qasm_reader.specs.declared.lexemes.Stop.{Stop}
 use Rattle.qasm_reader.specs.declared.lexemes.Stop.TheVariants.{Semicolon, Comma, To}
 use Rattle.qasm_reader.specs.Lexemes.{Lexeme, of_kind, word, whole, real, quoted, arrow, equal, mark, is_mark}
-use Rattle.qasm_reader.specs.Statements.{Argument, is_name}
+use Rattle.qasm_reader.specs.Statements.{is_name}
 
 -- the code's lexeme, as the definitions have it
 abbrev pub seen : Piece → Lexeme
@@ -30,6 +28,10 @@ then (Some x) rest = Some (x, rest)
 abbrev pub then_bytes : Option (Bor (List ℕ)) → List Lexeme → Option (List ℕ × List Lexeme)
 then_bytes None rest = None
 then_bytes (Some x) rest = Some (x.now, rest)
+
+abbrev pub seen_bytes : Option (Bor (List ℕ)) → Option (List ℕ)
+seen_bytes None = None
+seen_bytes (Some b) = Some b.now
 
 abbrev pub marked : Bool → List Lexeme → Option (List Lexeme)
 marked true rest = Some rest

@@ -9,3 +9,4 @@ pub mod Fronts
 pub mod Parsing
 pub mod Scope
 pub mod Tests
+pub mod Drafts

@@ -1,15 +1,14 @@
 -- Words that only the clauses of private functions cite: how the lexemes of a statement are read, step by step.
-use Rattle.std.specs.Prelude.{◌≡◌, ℕ, ◌+◌, ◌-◌, Bool, true, false, ◌&&◌, ◌||◌, not, cond, nat_eq, List, [], ◌∷◌, ◌++◌, Option, Some, None, codes}
+use Rattle.std.specs.Prelude.{ℕ, Bool, true, false, ◌&&◌, cond, List, [], ◌∷◌, ◌++◌, Option, Some, None, codes}
 use Rattle.std.specs.List.{list_any}
 use Rattle.std.specs.Str.{bytes_eq}
 use Rattle.std.specs.Borrow.{Bor}
-use Rattle.qasm_reader.specs.declared.lexemes.Stop.{Stop}
-use Rattle.qasm_reader.specs.declared.lexemes.Stop.TheVariants.{Semicolon, Comma, To}
+use Rattle.qasm_reader.specs.declared.lexemes.Stop.TheVariants.{Comma, To}
 use Rattle.qasm_reader.specs.declared.statement.Form.{Form}
 use Rattle.qasm_reader.specs.declared.statement.Form.TheVariants.{Version, Include, Qubits, Bits, Barrier, Measure, Call, CallWith, LeftOut}
-use Rattle.qasm_reader.specs.Lexemes.{Lexeme, word, whole, real, quoted, arrow, equal, mark, is_mark}
+use Rattle.qasm_reader.specs.Lexemes.{Lexeme, word, real, quoted, is_mark}
 use Rattle.qasm_reader.specs.Statements.{Argument, Statement, version, include, qubits, bits, barrier, measure, call, left_out, is_name, is_left_out}
-use Rattle.qasm_reader.specs.Fronts.{and_then, name_at, digits_at, mark_at, at_end, index_at, is_nothing, is_stop, before_stop, has_stop, after_stop, ends_angle, deeper, angle_at}
+use Rattle.qasm_reader.specs.Fronts.{and_then, name_at, mark_at, at_end, index_at, is_nothing, is_stop, before_stop, has_stop, after_stop, ends_angle, deeper}
 
 -- the end, or an index
 abbrev pub indexed : List ℕ → List Lexeme → Option Argument
@@ -88,13 +87,9 @@ abbrev pub included_at : List Lexeme → Option (List ℕ)
 included_at (quoted bytes ∷ ls) = at_end bytes ls
 included_at _ = None
 
-abbrev pub pair_of : List Argument → Statement
-pair_of (a ∷ b ∷ []) = measure a b
-pair_of _ = version
-
-abbrev pub paired : Bool → List Argument → Option Statement
-paired true all = Some (pair_of all)
-paired false all = None
+abbrev pub paired : Option (Argument × Argument) → Option Statement
+paired None = None
+paired (Some p) = Some (measure p.0 p.1)
 
 abbrev pub measure_at : List Lexeme → Option Statement
 measure_at ls = cond (has_stop To ls) (and_then (argument_at (before_stop To ls)) (λ a. and_then (argument_at (after_stop To ls)) (λ b. Some (measure a b)))) None
@@ -123,10 +118,6 @@ abbrev pub statement_at : List Lexeme → Option Statement
 statement_at (word first ∷ ls) = after_word first ls
 statement_at _ = None
 
-abbrev pub seen_bytes : Option (Bor (List ℕ)) → Option (List ℕ)
-seen_bytes None = None
-seen_bytes (Some b) = Some b.now
-
 abbrev pub seen_pair : Option (Bor (List ℕ) × Bor (List ℕ)) → Option (List ℕ × List ℕ)
 seen_pair None = None
 seen_pair (Some p) = Some (p.0.now, p.1.now)
@@ -138,7 +129,7 @@ shown (Include text) all angles rest = include text.now
 shown (Qubits name size) all angles rest = qubits name.now size.now
 shown (Bits name size) all angles rest = bits name.now size.now
 shown Barrier all angles rest = barrier all
-shown Measure all angles rest = pair_of all
+shown (Measure from to) all angles rest = measure from to
 shown (Call name) all angles rest = call name.now None all
 shown (CallWith name) all angles rest = call name.now (Some angles) all
 shown (LeftOut name) all angles rest = left_out name.now rest

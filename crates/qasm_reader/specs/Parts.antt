@@ -1,6 +1,6 @@
 -- The statements of a text as lists of lexemes.
-use Rattle.std.specs.Prelude.{◌≡◌, ℕ, Bool, true, false, cond, List, [], ◌∷◌, ◌++◌, Option, Some, None}
-use Rattle.qasm_reader.specs.Lexemes.{Lexeme, mark, is_mark}
+use Rattle.std.specs.Prelude.{◌≡◌, ℕ, Bool, true, false, cond, List, [], ◌∷◌, Option, None}
+use Rattle.qasm_reader.specs.Lexemes.{Lexeme, is_mark}
 use Rattle.qasm_reader.specs.Statements.{Statement, version, written, Formed}
 use Rattle.qasm_reader.specs.Acts.{Act}
 

@@ -15,7 +15,7 @@ use Rattle.qasm_reader.specs.Acts.{wholes, places, qubits_at, up_to, target}
 use Rattle.qasm_reader.specs.Calls.{turn_kind, turn_times}
 use Rattle.qasm_reader.specs.Fronts.{and_then}
 use Rattle.qasm_reader.specs.Reasons.{has_twice, is_beyond, differ}
-use Rattle.std.specs.Prelude.{not, get_or, ◌≡◌, ℕ, ◌+◌, ◌*◌, ◌<◌, ◌≤◌, Bool, true, false, cond, nat_lt, nat_eq, List, [], ◌∷◌, ◌++◌, length, map, Option, Some, None, Result, Ok, Err}
+use Rattle.std.specs.Prelude.{not, get_or, ℕ, ◌+◌, ◌*◌, Bool, true, false, cond, nat_lt, nat_eq, List, [], ◌∷◌, Option, Some, None, Result, Ok, Err}
 
 -- the number, if it is below the bound
 abbrev pub number_below : ℕ → ℕ → Option ℕ

@@ -1,14 +1,14 @@
 -- Words that only private clauses and lemmas cite: the reasons of a statement as tests, in their order.
-use Rattle.std.specs.Prelude.{◌≡◌, ℕ, ◌+◌, ◌<◌, Bool, true, false, cond, nat_lt, List, [], ◌∷◌, ◌++◌, length, Option, Some, None}
+use Rattle.std.specs.Prelude.{◌≡◌, ℕ, Bool, true, false, cond, nat_lt, List, [], ◌∷◌, ◌++◌, length, Option, Some, None}
 use Rattle.qasm_lex.specs.Symbols.{decimal}
 use Rattle.qasm_reader.specs.declared.builtin.Builtin.{Builtin}
 use Rattle.qasm_reader.specs.declared.builtin.Builtin.TheVariants.{Gate, Turn}
 use Rattle.qasm_reader.specs.declared.turn.Turned.{Turned}
 use Rattle.qasm_reader.specs.declared.turn.Turned.TheVariants.{Refused, OffGrid as OffTheGrid, Quarters}
 use Rattle.qasm_reader.specs.declared.reason.Why.{Why}
-use Rattle.qasm_reader.specs.declared.reason.Why.TheVariants.{NotAStatement, OutOfProfile, UnknownName, Redeclared, UnknownRegister, IndexOutOfRange, WrongCount, SizesDiffer, RepeatedQubit, AngleRefused, OffGrid, Measured, TooManyQubits, TooManyGates}
+use Rattle.qasm_reader.specs.declared.reason.Why.TheVariants.{OutOfProfile, UnknownName, Redeclared, UnknownRegister, IndexOutOfRange, WrongCount, SizesDiffer, RepeatedQubit, AngleRefused, OffGrid, Measured, TooManyQubits, TooManyGates}
 use Rattle.qasm_reader.specs.Lexemes.{Lexeme}
-use Rattle.qasm_reader.specs.Statements.{Statement, version, include, qubits, bits, barrier, measure, call, left_out, Argument}
+use Rattle.qasm_reader.specs.Statements.{Statement, qubits, bits, measure, call, Argument}
 use Rattle.qasm_reader.specs.Acts.{Act, nothing, declares, measures, applies, registers, measured, qubit_count, gates}
 use Rattle.qasm_reader.specs.Calls.{builtin, turn_kind, turn_times, IsTurned}
 use Rattle.qasm_reader.specs.Reasons.{out_of_profile, unknown_name, redeclared, unknown_register, out_of_range, wrong_count, sizes_differ, repeated_qubit, is_measured, HasAngle}

@@ -32,7 +32,7 @@ fn qubits_at(targets: &[Target], place: u32) -> ArrayVec<u8, 3>
 }
 
 // The gates of the call at the place.
-#[tactic(auto, using(crate::proofs::Applied::replicate_next, crate::proofs::Applied::append_none))]
+#[tactic(auto, using(crate::proofs::Applied::replicate_next))]
 fn apply_at(
     alloc: Global,
     kind: Kind,
@@ -50,7 +50,7 @@ fn apply_at(
 }
 
 /// Adds the gates of a call: those of each place of its arguments in turn.
-#[tactic(auto, using(crate::proofs::Applied::product_next, crate::proofs::Applied::append_none))]
+#[tactic(auto, using(crate::proofs::Applied::product_next))]
 pub fn apply(
     alloc: Global,
     kind: Kind,

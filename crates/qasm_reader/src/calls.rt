@@ -4,10 +4,10 @@ ghost use Rattle.std.specs.List.{list_any};
 ghost use Rattle.qasm_reader.specs.Reasons.{is_unknown};
 ghost use Rattle.qasm_reader.specs.Scope.{resolve, resolved, turned_call, outcome_on};
 
+use crate::argument::Argument;
 use crate::builtin::{Builtin, gate_named, turn_kind, turn_times};
 use crate::reason::Why;
 use crate::registers::{Registers, Target};
-use crate::statement::Argument;
 use crate::targets::{places, repeats, sizes_differ, touches};
 use crate::turn::Turned;
 use bit_lists::OutOfMemory;
@@ -63,7 +63,7 @@ fn turned_call(gate: Builtin, turned: Turned) -> Result<(Kind, u8), Why>
 }
 
 // Why a call on these targets is refused, or how often a gate of which kind is done at each place.
-fn outcome_on(
+pub fn outcome_on(
     gate: Builtin,
     turned: Turned,
     targets: &[Target],

@@ -4,16 +4,23 @@
 #![tactic(auto)]
 
 mod apply;
+mod argument;
 mod builtin;
 mod calls;
 mod digits;
+mod draft;
 mod laws;
 mod lexemes;
+mod reader;
 mod reason;
 mod registers;
 mod statement;
 mod targets;
 mod turn;
 
-pub use laws::statements_are_unambiguous;
+pub use laws::{every_text_reads, one_reading, statements_are_unambiguous};
+pub use reader::read;
 pub use reason::{ReadStop, Refusal, Why};
+
+#[cfg(test)]
+mod tests;

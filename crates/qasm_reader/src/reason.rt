@@ -42,7 +42,7 @@ pub enum Why {
     TooManyGates,
 }
 
-/// The first statement that is refused, counted from 1, and why. An empty text is refused as statement 0.
+/// The first statement that is refused, counted from 1, and why. A text of blanks and comments alone, or of nothing, is refused as statement 0.
 #[derive(Clone, Copy, Debug, PartialEq, Eq)]
 pub struct Refusal {
     pub statement: u32,

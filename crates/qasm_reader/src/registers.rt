@@ -5,8 +5,8 @@ ghost use Rattle.qasm_reader.specs.Acts.{register};
 ghost use Rattle.qasm_reader.specs.Reasons.{is_unknown};
 ghost use Rattle.qasm_reader.specs.Scope.{target_in};
 
+use crate::argument::Argument;
 use crate::digits::number_below;
-use crate::statement::Argument;
 use bit_lists::OutOfMemory;
 use indexmap::IndexMap;
 use std::alloc::Global;

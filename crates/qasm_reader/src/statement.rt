@@ -4,9 +4,8 @@ ghost use Rattle.std.specs.List.{list_any};
 ghost use Rattle.std.specs.Str.{bytes_eq};
 ghost use Rattle.qasm_reader.specs.Lexemes.{Lexeme as Shown};
 ghost use Rattle.qasm_reader.specs.Statements.{Statement, Formed, written, is_left_out, words_left_out};
-ghost use Rattle.qasm_reader.specs.Fronts.{index_at};
+ghost use Rattle.qasm_reader.specs.Fronts.{index_at, seen_bytes};
 ghost use Rattle.qasm_reader.specs.Parsing.{
-  seen_bytes,
   seen_pair,
   declaration_at,
   argument_at,
@@ -24,35 +23,20 @@ ghost use Rattle.qasm_reader.specs.Parsing.{
   shown_if,
 };
 
+use crate::argument::Argument;
 use crate::lexemes::{Lexeme, Lexemes, Stop, is_name};
 use bit_lists::OutOfMemory;
 use std::alloc::Global;
-use std::marker::Model;
 
-/// A register, or one place of it by the digits of its index.
+/// The form of a statement. Angles, and arguments in any number, stand beside it.
 #[derive(Drop)]
-pub struct Argument<'a> {
-    pub name: &'a [u8],
-    pub index: Option<&'a [u8]>,
-}
-
-impl<'a> Model for Argument<'a> {
-    ghost use Rattle.qasm_reader.specs.Statements.{Argument as Written};
-    ghost use Rattle.qasm_reader.specs.Parsing.{seen_bytes};
-
-    ghost Value = { Written };
-
-    ghost view = { λ a. record { name = a.name.now; index = seen_bytes a.index } };
-}
-
-/// The form of a statement. Its arguments and angles stand beside it.
 pub enum Form<'a> {
     Version,
     Include(&'a [u8]),
     Qubits(&'a [u8], &'a [u8]),
     Bits(&'a [u8], &'a [u8]),
     Barrier,
-    Measure,
+    Measure(Argument<'a>, Argument<'a>),
     Call(&'a [u8]),
     CallWith(&'a [u8]),
     LeftOut(&'a [u8]),
@@ -121,26 +105,16 @@ fn read_arguments<'a>(
 }
 
 // The two sides of a measure.
-fn read_pair<'a>(
-    lexemes: &mut Lexemes<'a>,
-    into: &mut Vec<Argument<'a>>,
-) -> Result<bool, OutOfMemory>
-    ensures { IfOk result (λ good. paired good into.new.items ≡ measure_at lexemes.old) }
+fn read_pair<'a>(lexemes: &mut Lexemes<'a>) -> Option<(Argument<'a>, Argument<'a>)>
+    ensures { paired result ≡ measure_at lexemes.old }
 {
-    into.clear();
     let (mut front, found) = lexemes.cut(Stop::To);
     if !found {
-        return Ok(false);
+        return None;
     }
-    let Some(from) = one_argument(&mut front) else {
-        return Ok(false);
-    };
-    let Some(to) = one_argument(lexemes) else {
-        return Ok(false);
-    };
-    into.push(from)?;
-    into.push(to)?;
-    Ok(true)
+    let from = one_argument(&mut front)?;
+    let to = one_argument(lexemes)?;
+    Some((from, to))
 }
 
 fn is_version(lexemes: &mut Lexemes<'_>) -> bool
@@ -280,10 +254,9 @@ fn read_after<'a>(
             Ok(None)
         }
     } else if first == b"measure".as_slice() {
-        if read_pair(lexemes, arguments)? {
-            Ok(Some(Form::Measure))
-        } else {
-            Ok(None)
+        match read_pair(lexemes) {
+            Some((from, to)) => Ok(Some(Form::Measure(from, to))),
+            None => Ok(None),
         }
     } else if is_name(first) {
         read_call(first, lexemes, arguments, angles)

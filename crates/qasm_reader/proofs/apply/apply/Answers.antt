@@ -1,4 +1,4 @@
-use Rattle.std.proofs.Common.{rules, ◌<◌, length}
+use Rattle.std.proofs.Common.{rules, ◌<◌}
 use Rattle.qasm_reader.specs.Acts.{places, wholes}
 use Rattle.qasm_reader.proofs.Applied.{placed_few}
 use Rattle.qasm_reader.proofs.apply.apply.Goals as goal

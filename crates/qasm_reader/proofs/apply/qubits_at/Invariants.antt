@@ -1,6 +1,5 @@
-use Rattle.std.proofs.Common.{◌≡◌, ◌≤◌, ◌<◌, take, length, map}
-use Rattle.std.proofs.Common.{All}
-use Rattle.qasm_reader.specs.Acts.{qubit_at, qubits_at}
+use Rattle.std.proofs.Common.{◌≡◌, ◌≤◌, take, length}
+use Rattle.qasm_reader.specs.Acts.{qubits_at}
 use Rattle.qasm_reader.proofs.apply.qubits_at.Given as goal
 
 abbrev pub invariant-loop-target : goal.invariant-loop-target

@@ -1,4 +1,4 @@
-use Rattle.std.proofs.Common.{◌≡◌, ◌∙◌, sym, ap, rules, arith, ◌≤◌, ◌<◌, ◌+◌, ◌-◌, ◌*◌, ◌^◌, ◌∷◌, length}
+use Rattle.std.proofs.Common.{◌≡◌, ◌∙◌, ap, rules, ◌≤◌, ◌<◌, ◌+◌, ◌-◌, ◌*◌, ◌^◌, ◌∷◌, length}
 use Rattle.qasm_lex.specs.Symbols.{decimal}
 use Rattle.qasm_lex.proofs.NumberLemmas.{decimal_next, decimal_end}
 use Rattle.qasm_reader.proofs.Bounds.{great_already, none_below, some_below}

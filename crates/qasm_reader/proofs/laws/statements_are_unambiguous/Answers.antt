@@ -1,5 +1,4 @@
-use Rattle.std.proofs.Common.{◌≡◌, ◌∙◌, sym, ap, Some}
-use Rattle.qasm_reader.specs.Statements.{written}
+use Rattle.std.proofs.Common.{◌∙◌, sym, ap}
 use Rattle.qasm_reader.specs.Parsing.{statement_at}
 use Rattle.qasm_reader.proofs.Found.{some_same}
 use Rattle.qasm_reader.proofs.Written.{statement_written}

@@ -1,4 +1,3 @@
-use Rattle.std.proofs.Common.{◌≡◌, List}
 use Rattle.qasm_reader.specs.Parsing.{shown_if}
 use Rattle.qasm_reader.proofs.Exact.{found_exact, only_exact}
 use Rattle.qasm_reader.proofs.statement.read_statement.Goals as goal

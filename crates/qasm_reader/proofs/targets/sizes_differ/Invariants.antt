@@ -1,8 +1,6 @@
 use Rattle.std.proofs.Common.{◌≡◌, length}
-use Rattle.std.specs.List.{list_any}
-use Rattle.qasm_reader.specs.Acts.{qubits_at, wholes, places, is_among}
-use Rattle.qasm_reader.specs.Reasons.{differ, has_twice}
-use Rattle.qasm_reader.specs.Scope.{other_than, flagged}
+use Rattle.qasm_reader.specs.Acts.{wholes}
+use Rattle.qasm_reader.specs.Reasons.{differ}
 use Rattle.qasm_reader.proofs.targets.sizes_differ.Given as goal
 
 abbrev pub invariant-loop-target : goal.invariant-loop-target

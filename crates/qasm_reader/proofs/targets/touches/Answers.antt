@@ -1,7 +1,6 @@
-use Rattle.std.proofs.Common.{rules, arith, ◌≡◌, ◌∙◌, sym, ap, ℕ, ◌<◌, ◌+◌, true, false, refl}
+use Rattle.std.proofs.Common.{rules, ◌≡◌, sym, ℕ, ◌<◌, ◌+◌, true, false, refl}
 use Rattle.std.specs.List.{list_any}
-use Rattle.qasm_reader.specs.Acts.{qubits_at, up_to, places, wholes}
-use Rattle.qasm_reader.specs.Reasons.{has_twice}
+use Rattle.qasm_reader.specs.Acts.{qubits_at, places, wholes}
 use Rattle.qasm_reader.specs.Scope.{flagged}
 use Rattle.qasm_reader.proofs.Places.{any_there, any_not}
 use Rattle.qasm_reader.proofs.targets.touches.Goals as goal

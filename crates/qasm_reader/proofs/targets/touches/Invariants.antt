@@ -1,7 +1,6 @@
 use Rattle.std.proofs.Common.{◌≡◌, false}
 use Rattle.std.specs.List.{list_any}
 use Rattle.qasm_reader.specs.Acts.{qubits_at, up_to}
-use Rattle.qasm_reader.specs.Reasons.{has_twice}
 use Rattle.qasm_reader.specs.Scope.{flagged}
 use Rattle.qasm_reader.proofs.targets.touches.Given as goal
 

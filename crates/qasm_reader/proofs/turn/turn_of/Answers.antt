@@ -1,6 +1,4 @@
-use Rattle.std.proofs.Common.{rules, ◌≡◌, ◌∙◌, sym, ap, ℕ, Ok, Err, Some, None, Result}
-use Rattle.qasm_lex.specs.declared.refusal.AngleRefusal.{AngleRefusal}
-use Rattle.qasm_lex.specs.Fractions.{Ratio}
+use Rattle.std.proofs.Common.{rules, ◌≡◌, ◌∙◌, sym, Ok, Err, Some, None}
 use Rattle.qasm_lex.specs.Angles.{answer_of, ratio_of, IsAnswer}
 use Rattle.qasm_lex.specs.Quarters.{IsQuarters}
 use Rattle.qasm_reader.specs.Lexemes.{symbols}

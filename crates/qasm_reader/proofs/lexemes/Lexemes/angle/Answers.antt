@@ -1,4 +1,4 @@
-use Rattle.std.proofs.Common.{rules, ◌≡◌, ◌∙◌, sym, ap, List, take, drop, suc, Some, None, subst}
+use Rattle.std.proofs.Common.{rules, ◌≡◌, ◌∙◌, sym, ap, take, suc, Some, None, subst}
 use Rattle.qasm_lex.specs.Lexemes.{AreOfText}
 use Rattle.qasm_reader.specs.Lexemes.{lexemes_of}
 use Rattle.qasm_reader.specs.Fronts.{angle_place, angle_at, then_angle}

@@ -1,7 +1,7 @@
-use Rattle.std.proofs.Common.{rules, ◌≡◌, ◌∙◌, sym, ap, List, take, drop, suc, nat_lt, length, subst}
+use Rattle.std.proofs.Common.{◌∙◌, sym, ap, take, drop, suc, nat_lt, length, subst}
 use Rattle.qasm_lex.specs.Lexemes.{AreOfText}
 use Rattle.qasm_reader.specs.Lexemes.{lexemes_of}
-use Rattle.qasm_reader.specs.Fronts.{stop_place, before_stop, has_stop, after_stop}
+use Rattle.qasm_reader.specs.Fronts.{before_stop, has_stop, after_stop}
 use Rattle.qasm_reader.proofs.Tokens.{cut_at, later_of_text, earlier_of_text}
 use Rattle.qasm_reader.proofs.lexemes.Lexemes.cut.Goals as goal
 

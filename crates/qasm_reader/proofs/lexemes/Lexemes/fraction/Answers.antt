@@ -1,4 +1,4 @@
-use Rattle.std.proofs.Common.{rules, ◌≡◌, ◌∙◌, sym, ap, subst, List}
+use Rattle.std.proofs.Common.{◌≡◌, ◌∙◌, sym, ap, subst, List}
 use Rattle.qasm_lex.specs.declared.symbol.Symbol.{Symbol}
 use Rattle.qasm_lex.specs.Angles.{IsAnswer, answer_of, symbols_of}
 use Rattle.qasm_reader.specs.Lexemes.{symbols}

@@ -1,4 +1,4 @@
-use Rattle.std.proofs.Common.{◌≡◌, ◌∙◌, ap, refl}
+use Rattle.std.proofs.Common.{◌∙◌, ap, refl}
 use Rattle.std.proofs.lemmas.Map.Text.{hash_map_str_same}
 use Rattle.qasm_reader.specs.Acts.{register}
 use Rattle.qasm_reader.proofs.Names.{lookup_named}

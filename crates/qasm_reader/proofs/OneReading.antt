@@ -1,0 +1,175 @@
+-- A text reads in one way.
+use Rattle.std.proofs.Common.{◌≡◌, ◌∙◌, sym, ap, refl, subst, ℕ, ◌+◌, List, [], ◌∷◌, ◌++◌, length, Option, Some, Result, Ok, Err, IfOk, IfErr, arith, append_assoc, append-nil}
+use Rattle.gate_set.specs.declared.kind.Kind.{Kind}
+use Rattle.qasm_lex.specs.declared.refusal.AngleRefusal.{AngleRefusal}
+use Rattle.qasm_lex.specs.Fractions.{Ratio}
+use Rattle.qasm_lex.specs.Quarters.{IsQuarters}
+use Rattle.qasm_lex.proofs.Cuts.{tokens_same}
+use Rattle.qasm_lex.proofs.OneAnswer.{one_answer}
+use Rattle.qasm_lex.proofs.OneQuarters.{one_quarters}
+use Rattle.qasm_lex.proofs.Denominators.{answer_positive}
+use Rattle.qasm_reader.specs.declared.builtin.Builtin.{Builtin}
+use Rattle.qasm_reader.specs.declared.builtin.Builtin.TheVariants.{Gate, Turn}
+use Rattle.qasm_reader.specs.declared.turn.Turned.TheVariants.{Quarters}
+use Rattle.qasm_reader.specs.declared.reason.Why.{Why}
+use Rattle.qasm_reader.specs.declared.reason.ReadStop.{ReadStop}
+use Rattle.qasm_reader.specs.declared.reason.ReadStop.TheVariants.{Refused as Stopped, OutOfMemory}
+use Rattle.gate_set.specs.Circuits.{Circuit}
+use Rattle.qasm_reader.specs.Lexemes.{Lexeme, symbols, lexemes_of}
+use Rattle.qasm_reader.specs.Statements.{Statement, version, include, qubits, bits, barrier, measure, call, left_out, Argument}
+use Rattle.qasm_reader.specs.Acts.{Act, applies, circuit_of}
+use Rattle.qasm_reader.specs.Calls.{builtin, turn_kind, turn_times, IsTurned, Calls, plain, turned, Does}
+use Rattle.qasm_reader.specs.Parts.{Part, parts_of}
+use Rattle.qasm_reader.specs.Reasons.{Holds, Refuses, IsFree}
+use Rattle.qasm_reader.specs.Reading.{Accepts, AllAccepted, Reading, circuit, refusal, IsRefused, Reads, ReadsAs, IfRefused, Says}
+use Rattle.qasm_reader.proofs.Good.{has_one, one_refusal}
+
+-- an angle is one number of quarter turns
+same_ratio : (f g : Ratio) → ◌≡◌ {A = Result Ratio AngleRefusal} (Ok f) (Ok g) → g ≡ f
+same_ratio f g e = cc
+
+quarters_one : (angle : List Lexeme) (m k : ℕ) → IsTurned angle (Quarters m) → IsTurned angle (Quarters k) → m ≡ k
+quarters_one angle m k p q =
+    let e : q.0 ≡ p.0 = same_ratio p.0 q.0 (one_answer (symbols angle) (Ok p.0) (Ok q.0) p.1 q.1) in
+    one_quarters p.0 m k (answer_positive (symbols angle) p.0 p.1) p.2 (subst (λ f. IsQuarters f k) e q.2)
+
+-- a call does one thing
+plain_one : (gate : Option Builtin) (kind other : Kind) → gate ≡ Some (Gate kind) → gate ≡ Some (Gate other) → kind ≡ other
+plain_one gate kind other e f = let q : Some (Gate kind) ≡ Some (Gate other) = sym e ∙ f in cc
+
+not_both : (gate : Option Builtin) (kind forth back : Kind) → gate ≡ Some (Gate kind) → gate ≡ Some (Turn forth back) → ⊥
+not_both gate kind forth back e f = let q : Some (Gate kind) ≡ Some (Turn forth back) = sym e ∙ f in cc
+
+forth_one : (gate : Option Builtin) (f b g d : Kind) → gate ≡ Some (Turn f b) → gate ≡ Some (Turn g d) → f ≡ g
+forth_one gate f b g d e h = let q : Some (Turn f b) ≡ Some (Turn g d) = sym e ∙ h in cc
+
+back_one : (gate : Option Builtin) (f b g d : Kind) → gate ≡ Some (Turn f b) → gate ≡ Some (Turn g d) → b ≡ d
+back_one gate f b g d e h = let q : Some (Turn f b) ≡ Some (Turn g d) = sym e ∙ h in cc
+
+angle_one : (angles : Option (List (List Lexeme))) (a b : List Lexeme) → angles ≡ Some (a ∷ []) → angles ≡ Some (b ∷ []) → a ≡ b
+angle_one angles a b e f = let q : Some (a ∷ []) ≡ Some (b ∷ []) = sym e ∙ f in cc
+
+turn_act_one : (f g b d : Kind) (m k : ℕ) (all : List Argument) → f ≡ g → b ≡ d → m ≡ k → applies (turn_kind f b m) (turn_times m) all ≡ applies (turn_kind g d k) (turn_times k) all
+turn_act_one f g b d m k all e h q =
+    ap (λ x. applies (turn_kind x b m) (turn_times m) all) e ∙ ap (λ x. applies (turn_kind g x m) (turn_times m) all) h
+    ∙ ap (λ x. applies (turn_kind g d x) (turn_times x) all) q
+
+calls_one : (name : List ℕ) (angles : Option (List (List Lexeme))) (all : List Argument) (a b : Act) → Calls name angles all a → Calls name angles all b → a ≡ b
+calls_one name angles all a b (plain kind e p) (plain other f q) = p ∙ ap (λ k. applies k 1 all) (plain_one (builtin name) kind other e f) ∙ sym q
+calls_one name angles all a b (plain kind e p) (turned forth back angle m f g t q) = absurd (not_both (builtin name) kind forth back e f)
+calls_one name angles all a b (turned forth back angle m e g t p) (plain kind f q) = absurd (not_both (builtin name) kind forth back f e)
+calls_one name angles all a b (turned forth back angle m e g t p) (turned fore aft bend k f h u q) =
+    let same : bend ≡ angle = angle_one angles bend angle h g in
+    let turns : m ≡ k = quarters_one angle m k t (subst (λ x. IsTurned x (Quarters k)) same u) in
+    p ∙ turn_act_one forth fore back aft m k all (forth_one (builtin name) forth back fore aft e f) (back_one (builtin name) forth back fore aft e f) turns ∙ sym q
+
+-- a statement does one thing
+pub does_one : (s : Statement) (a b : Act) → Does s a → Does s b → a ≡ b
+does_one version a b p q = p ∙ sym q
+does_one (include text) a b p q = p ∙ sym q
+does_one (qubits name size) a b p q = p ∙ sym q
+does_one (bits name size) a b p q = p ∙ sym q
+does_one (barrier all) a b p q = p ∙ sym q
+does_one (measure from to) a b p q = p ∙ sym q
+does_one (call name angles all) a b p q = calls_one name angles all a b p q
+does_one (left_out name more) a b p q = p ∙ sym q
+
+-- an accepted part does one thing
+pub accepts_one : (limit : ℕ) (before : List Act) (part : Part) (a b : Act) → Accepts limit before part a → Accepts limit before part b → a ≡ b
+accepts_one limit before part a b p q =
+    does_one p.statement a b p.does (subst (λ s. Does s b) (has_one before part q.statement p.statement q.has p.has) q.does)
+
+-- parts that are all accepted do the same
+pub all_accepted_one : (limit : ℕ) (before : List Act) (parts : List Part) (xs ys : List Act) → AllAccepted limit before parts xs → AllAccepted limit before parts ys → xs ≡ ys
+all_accepted_one limit before [] [] [] p q = refl
+all_accepted_one limit before [] [] (y ∷ ys) p q = absurd q
+all_accepted_one limit before [] (x ∷ xs) ys p q = absurd p
+all_accepted_one limit before (part ∷ parts) [] ys p q = absurd p
+all_accepted_one limit before (part ∷ parts) (x ∷ xs) [] p q = absurd q
+all_accepted_one limit before (part ∷ parts) (x ∷ xs) (y ∷ ys) p q =
+    let e : x ≡ y = accepts_one limit before part x y p.0 q.0 in
+    let rest = all_accepted_one limit (before ++ x ∷ []) parts xs ys p.1 (subst (λ a. AllAccepted limit (before ++ a ∷ []) parts ys) (sym e) q.1) in
+    ap (λ a. a ∷ xs) e ∙ ap (λ r. y ∷ r) rest
+
+-- no part is both accepted and refused
+free_not_refused : (limit : ℕ) (before : List Act) (part : Part) (why : Why) → IsFree limit before part → Refuses limit (before ++ []) part why → ⊥
+free_not_refused limit before part why free r = free why (subst (λ b. Holds limit b part why) (append-nil before) r.holds)
+
+first_same : (p q : Part) (ps qs : List Part) → p ∷ ps ≡ q ∷ qs → p ≡ q
+first_same p q ps qs e = cc
+
+rest_same : (p q : Part) (ps qs : List Part) → p ∷ ps ≡ q ∷ qs → ps ≡ qs
+rest_same p q ps qs e = cc
+
+-- a refusal after one more statement
+further : (limit : ℕ) (before : List Act) (x : Act) (xs : List Act) (part : Part) (why : Why) → Refuses limit (before ++ (x ∷ xs)) part why → Refuses limit ((before ++ x ∷ []) ++ xs) part why
+further limit before x xs part why r = subst (λ b. Refuses limit b part why) (sym (append_assoc before (x ∷ []) xs)) r
+
+-- parts that are all accepted have none that is refused
+accepted_not_refused : (limit : ℕ) (before : List Act) (good more : List Part) (bad : Part) (acts xs : List Act) (why : Why) → AllAccepted limit before (good ++ (bad ∷ more)) acts
+    → AllAccepted limit before good xs → Refuses limit (before ++ xs) bad why → ⊥
+accepted_not_refused limit before [] more bad [] xs why p q r = p
+accepted_not_refused limit before [] more bad (a ∷ acts) (x ∷ xs) why p q r = q
+accepted_not_refused limit before [] more bad (a ∷ acts) [] why p q r = free_not_refused limit before bad why ((p.0).free) r
+accepted_not_refused limit before (part ∷ good) more bad [] xs why p q r = p
+accepted_not_refused limit before (part ∷ good) more bad (a ∷ acts) [] why p q r = q
+accepted_not_refused limit before (part ∷ good) more bad (a ∷ acts) (x ∷ xs) why p q r =
+    let e : a ≡ x = accepts_one limit before part a x p.0 q.0 in
+    accepted_not_refused limit (before ++ x ∷ []) good more bad acts xs why (subst (λ y. AllAccepted limit (before ++ y ∷ []) (good ++ (bad ∷ more)) acts) e p.1) q.1
+    (further limit before x xs bad why r)
+
+-- the first part that is refused is one, and so is its reason
+refused_one : (limit : ℕ) (before : List Act) (good other : List Part) (bad worse : Part) (more rest : List Part) (xs ys : List Act) (v w : Why) → good ++ (bad ∷ more) ≡ other ++ (worse ∷ rest)
+    → AllAccepted limit before good xs → AllAccepted limit before other ys → Refuses limit (before ++ xs) bad v → Refuses limit (before ++ ys) worse w → (length good ≡ length other) × (v ≡ w)
+refused_one limit before [] other bad worse more rest (x ∷ xs) ys v w e p q r s = absurd p
+refused_one limit before [] [] bad worse more rest [] (y ∷ ys) v w e p q r s = absurd q
+refused_one limit before [] [] bad worse more rest [] [] v w e p q r s =
+    (refl, one_refusal limit (before ++ []) bad v w r (subst (λ part. Refuses limit (before ++ []) part w) (sym (first_same bad worse more rest e)) s))
+refused_one limit before [] (o ∷ other) bad worse more rest [] [] v w e p q r s = absurd q
+refused_one limit before [] (o ∷ other) bad worse more rest [] (y ∷ ys) v w e p q r s =
+    absurd (free_not_refused limit before o v ((q.0).free) (subst (λ part. Refuses limit (before ++ []) part v) (first_same bad o more (other ++ (worse ∷ rest)) e) r))
+refused_one limit before (g ∷ good) other bad worse more rest [] ys v w e p q r s = absurd p
+refused_one limit before (g ∷ good) [] bad worse more rest (x ∷ xs) (y ∷ ys) v w e p q r s = absurd q
+refused_one limit before (g ∷ good) [] bad worse more rest (x ∷ xs) [] v w e p q r s =
+    absurd (free_not_refused limit before g w ((p.0).free) (subst (λ part. Refuses limit (before ++ []) part w) (sym (first_same g worse (good ++ (bad ∷ more)) rest e)) s))
+refused_one limit before (g ∷ good) (o ∷ other) bad worse more rest (x ∷ xs) [] v w e p q r s = absurd q
+refused_one limit before (g ∷ good) (o ∷ other) bad worse more rest (x ∷ xs) (y ∷ ys) v w e p q r s =
+    let part : g ≡ o = first_same g o (good ++ (bad ∷ more)) (other ++ (worse ∷ rest)) e in
+    let act : y ≡ x = accepts_one limit before g y x (subst (λ k. Accepts limit before k y) (sym part) q.0) p.0 in
+    let one = refused_one limit (before ++ x ∷ []) good other bad worse more rest xs ys v w (rest_same g o (good ++ (bad ∷ more)) (other ++ (worse ∷ rest)) e) p.1
+    (subst (λ a. AllAccepted limit (before ++ a ∷ []) other ys) act q.1) (further limit before x xs bad v r)
+    (subst (λ a. Refuses limit ((before ++ a ∷ []) ++ ys) worse w) act (further limit before y ys worse w s)) in
+    (let l = one.0 in omega arith, one.1)
+
+-- statements read in one way
+reading_refused : (limit : ℕ) (parts : List Part) (n m : ℕ) (v w : Why) → IsRefused limit parts n v → IsRefused limit parts m w → refusal n v ≡ refusal m w
+reading_refused limit parts n m v w p q =
+    let one = refused_one limit [] p.good q.good p.bad q.bad p.more q.more p.acts q.acts v w (sym p.split ∙ q.split) p.accepted q.accepted p.refuses q.refuses in
+    ap (λ k. refusal k v) (p.count ∙ ap (λ k. k + 1) one.0 ∙ sym q.count) ∙ ap (λ y. refusal m y) one.1
+
+reading_not_both : (limit : ℕ) (parts : List Part) (acts : List Act) (n : ℕ) (why : Why) → AllAccepted limit [] parts acts → IsRefused limit parts n why → ⊥
+reading_not_both limit parts acts n why p q =
+    accepted_not_refused limit [] q.good q.more q.bad acts q.acts why (subst (λ x. AllAccepted limit [] x acts) q.split p) q.accepted q.refuses
+
+pub reads_one : (limit : ℕ) (parts : List Part) (a b : Reading) → Reads limit parts a → Reads limit parts b → a ≡ b
+reads_one limit [] a b p q = p ∙ sym q
+reads_one limit (part ∷ parts) (circuit c) (circuit d) p q =
+    ap circuit (p.2 ∙ ap circuit_of (all_accepted_one limit [] (part ∷ parts) p.0 q.0 p.1 q.1) ∙ sym q.2)
+reads_one limit (part ∷ parts) (circuit c) (refusal n why) p q = absurd (reading_not_both limit (part ∷ parts) p.0 n why p.1 q)
+reads_one limit (part ∷ parts) (refusal n why) (circuit c) p q = absurd (reading_not_both limit (part ∷ parts) q.0 n why q.1 p)
+reads_one limit (part ∷ parts) (refusal n v) (refusal m w) p q = reading_refused limit (part ∷ parts) n m v w p q
+
+-- a text reads in one way
+pub one_reading : (text : List ℕ) (limit : ℕ) (a b : Reading) → ReadsAs text limit a → ReadsAs text limit b → a ≡ b
+one_reading text limit a b p q =
+    let same = tokens_same text p.tokens q.tokens p.bad q.bad p.are_tokens q.are_tokens in
+    let parts : parts_of (lexemes_of text q.tokens) q.bad ≡ parts_of (lexemes_of text p.tokens) p.bad =
+    ap (λ t. parts_of (lexemes_of text t) q.bad) (sym same.0) ∙ ap (λ e. parts_of (lexemes_of text p.tokens) e) (sym same.1) in
+    reads_one limit (parts_of (lexemes_of text p.tokens) p.bad) a b p.reads (subst (λ x. Reads limit x b) parts q.reads)
+
+-- what is read is the only reading
+pub says_one : (limit : ℕ) (parts : List Part) (r : Result Circuit ReadStop) → IfOk r (λ c. Reads limit parts (circuit c)) → IfErr r (λ stop. IfRefused stop (λ x. Reads limit parts (refusal x.statement x.why)))
+    → (reading : Reading) → Reads limit parts reading → Says r reading
+says_one limit parts (Ok c) found refused reading h = reads_one limit parts reading (circuit c) h found
+says_one limit parts (Err (Stopped x)) found refused reading h = reads_one limit parts reading (refusal x.statement x.why) h refused
+says_one limit parts (Err OutOfMemory) found refused reading h = tt
