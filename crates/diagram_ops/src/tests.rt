@@ -1,16 +1,16 @@
 //! Connectives and cofactors against truth tables, and stores that are full.
 ghost use Rattle.std.specs.Prelude.{◌≡◌, ◌≤◌, ◌<◌, ◌+◌, IfSome, IfOk, [], length};
-ghost use Rattle.diagram_model.specs.Stores.{IsLive, IsSound, KeepsFunctions};
+ghost use Rattle.diagram_model.specs.Stores.{IsLive, IsSound, Extends, KeepsFunctions};
 ghost use Rattle.diagram_ops.specs.Operands.{AreLive};
 
 use crate::Diagrams;
 use crate::connect::connect;
 use crate::operands::Operands;
-use bit_lists::{Bits, Partial};
+use bit_lists::{Bits, OutOfMemory, Partial};
 use memos::Memo;
 use node_store::{FALSE, Node, Store, StoreStop, TRUE};
 use std::alloc::Global;
-use std::marker::Brand;
+use std::marker::{Brand, Model};
 use std::mem;
 use std::process::Abort;
 use std::sync::ledger::{Blank, Ledger};
@@ -239,55 +239,141 @@ fn and_of_two_variables(rt: HostRuntime) {
     assert!(rt; conjunction::<Brand>(&rt, rt.alloc(), Blank::new(1)).is_ok());
 }
 
-/// Whether a node of four variables is "x_i and x_j".
-fn is_both(store: &Store, n: Node, i: u8, j: u8) -> bool
+/// Whether a node of four variables has a truth table, where bit 8 x0 + 4 x1 + 2 x2 + x3 is the value
+/// at a point.
+fn has_truths(store: &Store, n: Node, truths: u16) -> bool
     requires live { IsLive store.now n.0 }
     requires vars { length store.now.order ≡ 4 }
-    requires i { i < 4 }
-    requires j { j < 4 }
 {
-    for point in 0..16u8 {
+    for point in 0..16u16 {
         let mut x = Bits::zeros(4);
         x.set(0, point & 8 != 0);
         x.set(1, point & 4 != 0);
         x.set(2, point & 2 != 0);
         x.set(3, point & 1 != 0);
-        if store.value(n, &x) != (x.get(i) && x.get(j)) {
+        if store.value(n, &x) != ((truths >> point) % 2 == 1) {
             return false;
         }
     }
     true
 }
 
-/// "(x0 and x2) exclusive or (x1 and x3)", which needs seven nodes; what was made before it stays.
+/// A node with its truth table.
+#[derive(Clone, Copy, Drop)]
+struct Tabled {
+    node: Node,
+    truths: u16,
+}
+
+/// Diagrams of four variables, with the constants and each node that a call answered so far.
+#[derive(Drop)]
+struct Growing {
+    diagrams: Diagrams,
+    made: Vec<Tabled>,
+}
+
+impl Model for Growing {
+    ghost use Rattle.std.specs.List.{All};
+    ghost use Rattle.diagram_model.specs.Stores.{IsLive};
+    ghost use Rattle.diagram_ops.specs.Diagrams.{Shared};
+
+    ghost Value = { Shared };
+
+    ghost view = { λ a. a.diagrams };
+
+    ghost invariant = { λ a. All (λ e. IsLive a.diagrams.store e.node.0) a.made.items };
+}
+
+impl Growing {
+    fn new(alloc: Global, limit: u32, capacity: u32) -> Result<Growing, OutOfMemory>
+        requires limit { 1 ≤ limit }
+        requires most { limit ≤ 64 }
+        requires some_entry { 1 ≤ capacity }
+        requires capacity { capacity ≤ 64 }
+        ensures vars { IfOk result (λ d. length d.store.order ≡ 4) }
+    {
+        let always_false = Tabled {
+            node: FALSE,
+            truths: 0,
+        };
+        let always_true = Tabled {
+            node: TRUE,
+            truths: 0xffff,
+        };
+        let diagrams = Diagrams::new(alloc, 4, limit, capacity)?;
+        let made = vec![in alloc; always_false, always_true]?;
+        Ok(Growing { diagrams, made })
+    }
+
+    /// A variable, whose truth table is given.
+    fn variable(&mut self, rt: &impl Abort, var: u8, truths: u16) -> Result<Node, StoreStop>
+        requires var { var < length self.old.store.order }
+        ensures live { IfOk result (λ n. IsLive self.new.store n.0) }
+        ensures extends { Extends self.old.store self.new.store }
+        ensures functions { KeepsFunctions self.old.store self.new.store }
+    {
+        let node = self.diagrams.variable(var)?;
+        assert!(rt; self.made.push(Tabled { node, truths }).is_ok());
+        Ok(node)
+    }
+
+    /// A connective of two functions, whose truth table is given.
+    fn apply<const T: u8, L: Ledger>(
+        &mut self,
+        rt: &impl Abort,
+        f: Node,
+        g: Node,
+        truths: u16,
+        steps: &mut Steps<L>,
+    ) -> Result<Node, StoreStop>
+        requires f { IsLive self.old.store f.0 }
+        requires g { IsLive self.old.store g.0 }
+        ensures live { IfOk result (λ n. IsLive self.new.store n.0) }
+        ensures extends { Extends self.old.store self.new.store }
+        ensures functions { KeepsFunctions self.old.store self.new.store }
+    {
+        let node = self.diagrams.apply3::<T, _>(f, g, FALSE, steps)?;
+        assert!(rt; self.made.push(Tabled { node, truths }).is_ok());
+        Ok(node)
+    }
+
+    /// The constants and each node that was answered still have their truth tables.
+    fn check(&self, rt: &impl Abort) {
+        let store = self.diagrams.store();
+        assert!(rt; store.order().len() == 4);
+        for tabled in &self.made {
+            assert!(rt; has_truths(store, tabled.node, tabled.truths));
+        }
+    }
+}
+
+/// "(x0 and x2) exclusive or (x1 and x3)", which needs seven nodes.
 fn seven_nodes<L: Ledger>(
     rt: &impl Abort,
-    d: &mut Diagrams,
+    d: &mut Growing,
     steps: &mut Steps<L>,
 ) -> Result<Node, StoreStop>
     requires vars { length d.old.store.order ≡ 4 }
+    ensures vars { length d.new.store.order ≡ 4 }
     ensures live { IfOk result (λ n. IsLive d.new.store n.0) }
 {
-    let x0 = d.variable(0)?;
-    let x2 = d.variable(2)?;
-    let first = d.apply3::<192, _>(x0, x2, FALSE, steps)?;
-    let x1 = d.variable(1)?;
-    let x3 = d.variable(3)?;
-    let second = d.apply3::<192, _>(x1, x3, FALSE, steps)?;
-    let sum = d.apply3::<60, _>(first, second, FALSE, steps);
-    assert!(rt; is_both(d.store(), first, 0, 2));
-    assert!(rt; is_both(d.store(), second, 1, 3));
-    sum
+    let x0 = d.variable(rt, 0, 0xff00)?;
+    let x2 = d.variable(rt, 2, 0xcccc)?;
+    let first = d.apply::<192, _>(rt, x0, x2, 0xcc00, steps)?;
+    let x1 = d.variable(rt, 1, 0xf0f0)?;
+    let x3 = d.variable(rt, 3, 0xaaaa)?;
+    let second = d.apply::<192, _>(rt, x1, x3, 0xa0a0, steps)?;
+    d.apply::<60, _>(rt, first, second, 0x6ca0, steps)
 }
 
-/// The answer at a limit, and how many nodes are held.
+/// The answer at a limit, how many nodes are held, and how many were compared with their truth tables.
 fn seven_nodes_at<L: Ledger>(
     rt: &impl Abort,
     alloc: Global,
     limit: u32,
     capacity: u32,
     blank: Blank,
-) -> Option<(Result<Node, StoreStop>, u32)>
+) -> Option<(Result<Node, StoreStop>, u32, usize)>
     requires limit { 1 ≤ limit }
     requires most { limit ≤ 64 }
     requires some_entry { 1 ≤ capacity }
@@ -297,22 +383,26 @@ fn seven_nodes_at<L: Ledger>(
     requires some { 0 < blank.parts }
 {
     let mut steps = Steps::<L>::new(blank);
-    let mut d = Diagrams::new(alloc, 4, limit, capacity).ok()?;
+    let mut d = Growing::new(alloc, limit, capacity).ok()?;
     let answer = seven_nodes(rt, &mut d, &mut steps);
-    assert!(rt; d.store().order().len() == 4);
+    d.check(rt);
+    let compared = d.made.len();
     let again = seven_nodes(rt, &mut d, &mut steps);
+    d.check(rt);
     assert!(rt; answer == again);
+    let store = d.diagrams.store();
     if let Ok(n) = again {
-        assert_eq!(rt; d.store().size(&[n]).ok()?, 7);
+        assert_eq!(rt; store.size(&[n]).ok()?, 7);
     }
-    Some((answer, d.store().held()))
+    Some((answer, store.held(), compared))
 }
 
-// Four variables, two conjunctions and four more nodes are ten.
+// Four variables and two conjunctions are six nodes, each of a call of its own, and the last call adds
+// four more. What was answered before a refusal is compared, and the two constants.
 #[test]
 fn a_full_store_stops_a_call(rt: HostRuntime) {
     for limit in 1..12u32 {
-        let Some((answer, held)) = seven_nodes_at::<Brand>(
+        let Some((answer, held, compared)) = seven_nodes_at::<Brand>(
             &rt,
             rt.alloc(),
             limit,
@@ -324,9 +414,11 @@ fn a_full_store_stops_a_call(rt: HostRuntime) {
         if limit < 10 {
             assert!(rt; answer == Err(StoreStop::Full { held: limit }));
             assert_eq!(rt; held, limit);
+            assert_eq!(rt; compared, 2 + limit.min(6) as usize);
         } else {
             assert!(rt; answer.is_ok());
             assert_eq!(rt; held, 10);
+            assert_eq!(rt; compared, 9);
         }
     }
 }

@@ -1,4 +1,3 @@
-use Rattle.diagram_model.proofs.Growing.{functions_kept}
 use Rattle.diagram_ops.proofs.Results.{lives_on}
 use Rattle.diagram_ops.proofs.tests.check_table.Goals as goal
 

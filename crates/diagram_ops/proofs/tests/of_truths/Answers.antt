@@ -1,4 +1,4 @@
-use Rattle.std.proofs.Common.{◌<◌, inl, arith}
+use Rattle.std.proofs.Common.{inl, arith}
 use Rattle.diagram_model.specs.Stores.{KeepsFunctions}
 use Rattle.diagram_model.proofs.Growing.{functions_kept}
 use Rattle.diagram_ops.proofs.Results.{functions_then}
