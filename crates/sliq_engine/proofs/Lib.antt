@@ -1,5 +1,6 @@
-pub mod Spellings
-pub mod Lines
 mod Partial
 mod ListingLemmas
 mod Phases
+mod Firsts
+mod Readings
+pub mod Causes

@@ -1,5 +1,5 @@
 -- Listings, line by line.
-use Rattle.std.proofs.Common.{◌≡◌, ℕ, zero, suc, ◌+◌, ◌^◌, ◌<◌, ◌≤◌, refl, sym, ◌∙◌, ap, subst, Bool, true, false, not, cond, List, [], ◌∷◌, ◌++◌, map, length, get_or, take, drop, arith, append-nil, replicate, Result, Ok, Err, OnErr, Option}
+use Rattle.std.proofs.Common.{◌≡◌, ℕ, zero, suc, ◌+◌, ◌^◌, ◌<◌, refl, sym, ◌∙◌, ap, Bool, true, false, not, cond, List, [], ◌∷◌, ◌++◌, map, length, get_or, take, drop, arith, append-nil, replicate, Result, Ok, Err, OnErr}
 use Rattle.std.proofs.Math.Path.{ap₂}
 use Rattle.std.proofs.Math.Seq.{take-length}
 use Rattle.std.specs.Bool.{Decides}
@@ -13,7 +13,7 @@ use Rattle.ring_omega.specs.Ring.{is_zero, zero_quad}
 use Rattle.ring_omega.specs.Lowest.{lowest_form}
 use Rattle.ring_omega.proofs.RingLemmas.{Decides-is_zero}
 use Rattle.bit_lists.specs.Lists.{all_lists, place_of}
-use Rattle.bit_lists.specs.Places.{listed, length-all_lists, get_or-all_lists, place_of-below}
+use Rattle.bit_lists.specs.Places.{listed, length-all_lists, get_or-all_lists}
 use Rattle.gate_set.specs.declared.gate.Gate.{Gate}
 use Rattle.circuit_model.specs.Product.{amp, exponent}
 use Rattle.circuit_model.specs.Vector.{at}

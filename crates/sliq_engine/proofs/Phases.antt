@@ -1,15 +1,18 @@
 -- How a run on one file ends.
-use Rattle.std.proofs.Common.{◌≡◌, ◌≤◌, ◌<◌, ◌+◌, ℕ, List, [], ◌∷◌, ◌++◌, length, map, Option, Some, None, IfSome, IsSome, inl, inr, sym, ◌∙◌, ap, refl, subst, arith, replicate, lit<, is_some, true}
+use Rattle.std.proofs.Common.{◌≡◌, ◌≤◌, ◌<◌, ℕ, List, [], ◌∷◌, length, Option, Some, None, IfSome, IsSome, inl, inr, sym, ap, refl, subst, arith, replicate, lit<, is_some, true}
 use Rattle.std.proofs.lemmas.List.{length-replicate}
-use Rattle.gate_set.specs.declared.gate.Gate.{Gate}
-use Rattle.sliq_engine.specs.PlainText.{ReadsAs}
+use Rattle.gate_set.specs.Circuits.{Circuit}
+use Rattle.qasm_reader.specs.declared.reason.Refusal.{Refusal}
+use Rattle.qasm_reader.specs.declared.reason.ReadStop.{ReadStop}
+use Rattle.qasm_reader.specs.declared.reason.ReadStop.TheVariants.{Refused as Stopped}
+use Rattle.qasm_reader.specs.Reading.{ReadsAs, IfRefused, circuit}
 use Rattle.outside.specs.Bytes.{Added, AddedSome}
 use Rattle.outside.specs.Outside.{Rose}
-use Rattle.sliq_engine.specs.declared.cause.Cause.TheVariants.{Done, BadWords, ReadFault, TooLong, Unbuilt, WriteFault, OutOfMemory}
+use Rattle.sliq_engine.specs.declared.cause.Cause.TheVariants.{Done, BadWords, ReadFault, TooLong, Refused, Unbuilt, WriteFault, OutOfMemory}
 use Rattle.sliq_engine.specs.Words.{Command, command_of, files_of}
 use Rattle.sliq_engine.specs.Words.Command.{sim}
 use Rattle.sliq_engine.specs.Output.{IsOutput, sim_output}
-use Rattle.sliq_engine.specs.Ends.{Asked, Taken, Read, IsLong, IsPlainText, FileRose, AreTexts, RunsTo}
+use Rattle.sliq_engine.specs.Ends.{Asked, Taken, Read, Built, IsLong, IsBuilt, IsRefusedAs, FileRose, AreTexts, RunsTo}
 
 asked : (words : List (List ℕ)) (name : List ℕ) → command_of words ≡ Some (sim name) → Asked words
 asked words name e = let P : Option Command → Type 0 = λ o. IsSome o in subst P (sym e) refl
@@ -66,42 +69,54 @@ taken {words = words} {bytes = bytes} took =
     let not_long : IsLong bytes → ⊥ = λ long. absurd (omega arith) in
     (asked words took.name took.sims, (not_long, tt))
 
-pub runs_unbuilt : {told : List ℕ → Option (List ℕ)} {words : List (List ℕ)} {bytes : List ℕ} (out : Option (List ℕ)) → Took told words bytes
-    → ((n : ℕ) (gates : List Gate) → ReadsAs bytes n gates → ⊥) → RunsTo told words (Unbuilt 1) out out
-runs_unbuilt {told = told} {words = words} {bytes = bytes} out took none =
+-- what the reader says of a refusal
+pub refused_so : (stop : ReadStop) (r : Refusal) (text : List ℕ) → stop ≡ Stopped r → IfRefused stop (λ s. IsRefusedAs s text) → IsRefusedAs r text
+refused_so stop r text e h = let P : ReadStop → Type 0 = λ s. IfRefused s (λ s. IsRefusedAs s text) in subst P e h
+
+pub runs_refused : {told : List ℕ → Option (List ℕ)} {words : List (List ℕ)} {bytes : List ℕ} (out : Option (List ℕ)) (r : Refusal) → Took told words bytes
+    → IsRefusedAs r bytes → RunsTo told words (Refused 1 r) out out
+runs_refused {told = told} {words = words} {bytes = bytes} out r took refused =
     record {
       texts = bytes ∷ [];
       are_texts = one_text told words took.name bytes took.sims took.is_text;
-      ends = (taken took, ([], bytes, [], refl, refl, (λ plain. none plain.0 plain.1 plain.2), tt));
+      ends = (taken took, ([], bytes, [], refl, refl, refused, tt));
       writes = refl;
     }
 
 -- and reads as a circuit
-pub record TookCircuit (told : List ℕ → Option (List ℕ)) (words : List (List ℕ)) (n : ℕ) (gates : List Gate) : Type 0 where
+pub record TookCircuit (told : List ℕ → Option (List ℕ)) (words : List (List ℕ)) (c : Circuit) : Type 0 where
   pub bytes : List ℕ
   pub took : Took told words bytes
-  pub reads : ReadsAs bytes n gates
+  pub reads : ReadsAs bytes 64 (circuit c)
 
-is_read : {told : List ℕ → Option (List ℕ)} {words : List (List ℕ)} {n : ℕ} {gates : List Gate} (t : TookCircuit told words n gates) → Read words (t.bytes ∷ [])
-is_read {n = n} {gates = gates} t = (taken t.took, ((n, gates, t.reads), tt))
+is_read : {told : List ℕ → Option (List ℕ)} {words : List (List ℕ)} {c : Circuit} (t : TookCircuit told words c) → Read words (t.bytes ∷ []) (c ∷ [])
+is_read t = (taken t.took, (t.reads, tt))
 
-is_output : {told : List ℕ → Option (List ℕ)} {words : List (List ℕ)} {n : ℕ} {gates : List Gate} (t : TookCircuit told words n gates) → IsOutput words (t.bytes ∷ []) (sim_output n gates)
-is_output {n = n} {gates = gates} t = (sim t.took.name, t.took.sims, (t.bytes, n, gates, refl, t.reads, refl))
+is_built : {told : List ℕ → Option (List ℕ)} {words : List (List ℕ)} {c : Circuit} (t : TookCircuit told words c) → IsBuilt c → Built words (t.bytes ∷ []) (c ∷ [])
+is_built t built = (is_read t, (built, tt))
 
-are : {told : List ℕ → Option (List ℕ)} {words : List (List ℕ)} {n : ℕ} {gates : List Gate} (t : TookCircuit told words n gates) → AreTexts told (files_of (command_of words)) (t.bytes ∷ [])
+is_output : {told : List ℕ → Option (List ℕ)} {words : List (List ℕ)} {c : Circuit} (t : TookCircuit told words c) → IsOutput words (t.bytes ∷ []) (sim_output c.qubits c.gates)
+is_output {c = c} t = (sim t.took.name, t.took.sims, (t.bytes, c, refl, t.reads, refl))
+
+are : {told : List ℕ → Option (List ℕ)} {words : List (List ℕ)} {c : Circuit} (t : TookCircuit told words c) → AreTexts told (files_of (command_of words)) (t.bytes ∷ [])
 are {told = told} {words = words} t = one_text told words t.took.name t.bytes t.took.sims t.took.is_text
 
-pub runs_done : {told : List ℕ → Option (List ℕ)} {words : List (List ℕ)} {n : ℕ} {gates : List Gate} (old new : Option (List ℕ)) → TookCircuit told words n gates
-    → Added old new (sim_output n gates) → RunsTo told words Done old new
-runs_done {n = n} {gates = gates} old new t added =
-    record { texts = t.bytes ∷ []; are_texts = are t; ends = is_read t; writes = (sim_output n gates, is_output t, added) }
+pub runs_unbuilt : {told : List ℕ → Option (List ℕ)} {words : List (List ℕ)} {c : Circuit} (out : Option (List ℕ)) → TookCircuit told words c
+    → (IsBuilt c → ⊥) → RunsTo told words (Unbuilt 1) out out
+runs_unbuilt {c = c} out t beyond =
+    record { texts = t.bytes ∷ []; are_texts = are t; ends = (c ∷ [], is_read t, ([], c, [], refl, refl, beyond, tt)); writes = refl }
 
-pub runs_write_fault : {told : List ℕ → Option (List ℕ)} {words : List (List ℕ)} {n : ℕ} {gates : List Gate} (old new : Option (List ℕ)) → TookCircuit told words n gates
-    → AddedSome old new (sim_output n gates) → RunsTo told words WriteFault old new
-runs_write_fault {n = n} {gates = gates} old new t some =
-    record { texts = t.bytes ∷ []; are_texts = are t; ends = is_read t; writes = (sim_output n gates, is_output t, some) }
+pub runs_done : {told : List ℕ → Option (List ℕ)} {words : List (List ℕ)} {c : Circuit} (old new : Option (List ℕ)) → TookCircuit told words c → IsBuilt c
+    → Added old new (sim_output c.qubits c.gates) → RunsTo told words Done old new
+runs_done {c = c} old new t built added =
+    record { texts = t.bytes ∷ []; are_texts = are t; ends = (c ∷ [], is_built t built); writes = (sim_output c.qubits c.gates, is_output t, added) }
 
-pub runs_out_of_memory : {told : List ℕ → Option (List ℕ)} {words : List (List ℕ)} {n : ℕ} {gates : List Gate} (old new : Option (List ℕ)) → TookCircuit told words n gates
-    → AddedSome old new (sim_output n gates) → RunsTo told words OutOfMemory old new
-runs_out_of_memory {n = n} {gates = gates} old new t some =
-    record { texts = t.bytes ∷ []; are_texts = are t; ends = tt; writes = inr (sim_output n gates, is_output t, some) }
+pub runs_write_fault : {told : List ℕ → Option (List ℕ)} {words : List (List ℕ)} {c : Circuit} (old new : Option (List ℕ)) → TookCircuit told words c → IsBuilt c
+    → AddedSome old new (sim_output c.qubits c.gates) → RunsTo told words WriteFault old new
+runs_write_fault {c = c} old new t built some =
+    record { texts = t.bytes ∷ []; are_texts = are t; ends = (c ∷ [], is_built t built); writes = (sim_output c.qubits c.gates, is_output t, some) }
+
+pub runs_out_of_memory : {told : List ℕ → Option (List ℕ)} {words : List (List ℕ)} {c : Circuit} (old new : Option (List ℕ)) → TookCircuit told words c
+    → AddedSome old new (sim_output c.qubits c.gates) → RunsTo told words OutOfMemory old new
+runs_out_of_memory {c = c} old new t some =
+    record { texts = t.bytes ∷ []; are_texts = are t; ends = tt; writes = inr (sim_output c.qubits c.gates, is_output t, some) }

@@ -1,22 +1,39 @@
 -- How a run ends: where each cause comes, what stands on out and err, and the status.
-use Rattle.std.specs.Prelude.{◌≡◌, ◌⊎◌, ℕ, ◌+◌, ◌<◌, List, [], ◌∷◌, ◌++◌, length, codes, Option, IsSome, IfSome}
+use Rattle.std.specs.Prelude.{◌≡◌, ◌⊎◌, ℕ, ◌+◌, ◌<◌, ◌≤◌, List, [], ◌∷◌, ◌++◌, length, codes, Option, IsSome, IfSome}
 use Rattle.std.specs.List.{AllByRecursion}
 use Rattle.std.specs.Fmt.{decimal}
-use Rattle.gate_set.specs.declared.gate.Gate.{Gate}
+use Rattle.gate_set.specs.Circuits.{Circuit}
 use Rattle.outside.specs.Outside.{Rose}
 use Rattle.outside.specs.Bytes.{Added, AddedSome}
-use Rattle.sliq_engine.specs.PlainText.{ReadsAs}
+use Rattle.qasm_reader.specs.declared.reason.Refusal.{Refusal}
+use Rattle.qasm_reader.specs.Reading.{ReadsAs, circuit, refusal}
 use Rattle.sliq_engine.specs.declared.cause.Cause.{Cause}
-use Rattle.sliq_engine.specs.declared.cause.Cause.TheVariants.{Done, BadWords, ReadFault, TooLong, Unbuilt, WriteFault, OutOfMemory}
+use Rattle.sliq_engine.specs.declared.cause.Cause.TheVariants.{Done, BadWords, ReadFault, TooLong, Refused, Unbuilt, WriteFault, OutOfMemory}
 use Rattle.sliq_engine.specs.Words.{command_of, files_of}
 use Rattle.sliq_engine.specs.Output.{IsOutput}
+use Rattle.sliq_engine.specs.Refusals.{reason_text}
 
 -- a text of more than 16 MiB
 abbrev pub IsLong : List ℕ → Type 0
 IsLong text = 16777216 < length text
 
-abbrev pub IsPlainText : List ℕ → Type 0
-IsPlainText text = (n : ℕ) × (gates : List Gate) × ReadsAs text n gates
+-- what the engine is built for so far: at most 8 qubits and 100 gates
+abbrev pub IsBuilt : Circuit → Type 0
+IsBuilt c = (c.qubits ≤ 8) × (length c.gates ≤ 100)
+
+-- the text reads as some circuit
+abbrev pub HasCircuit : List ℕ → Type 0
+HasCircuit text = (c : Circuit) × ReadsAs text 64 (circuit c)
+
+-- the text is refused so
+abbrev pub IsRefusedAs : Refusal → List ℕ → Type 0
+IsRefusedAs r text = ReadsAs text 64 (refusal r.statement r.why)
+
+-- these texts read as these circuits, one for each
+abbrev pub AreCircuits : List (List ℕ) → List Circuit → Type 0
+AreCircuits [] [] = Unit {0}
+AreCircuits (text ∷ texts) (c ∷ circuits) = ReadsAs text 64 (circuit c) × AreCircuits texts circuits
+AreCircuits _ _ = ⊥
 
 -- The phases of a run, in their order. Each is reached where none before it stops the run.
 
@@ -28,24 +45,28 @@ Asked words = IsSome (command_of words)
 abbrev pub Taken : List (List ℕ) → List (List ℕ) → Type 0
 Taken words texts = Asked words × AllByRecursion (λ text. ¬ IsLong text) texts
 
--- and each text reads as a circuit
-abbrev pub Read : List (List ℕ) → List (List ℕ) → Type 0
-Read words texts = Taken words texts × AllByRecursion IsPlainText texts
+-- and the texts read as these circuits
+abbrev pub Read : List (List ℕ) → List (List ℕ) → List Circuit → Type 0
+Read words texts circuits = Taken words texts × AreCircuits texts circuits
 
--- of these texts the one of this number, counted from 1, is the first that is so
-abbrev pub IsFirst : (List ℕ → Type 0) → List (List ℕ) → ℕ → Type 0
-IsFirst P texts number =
-    (front : List (List ℕ)) × (text : List ℕ) × (rest : List (List ℕ)) × (texts ≡ front ++ text ∷ rest) × (number ≡ length front + 1)
-    × P text × AllByRecursion (λ other. ¬ P other) front
+-- and each of them is one that the engine is built for
+abbrev pub Built : List (List ℕ) → List (List ℕ) → List Circuit → Type 0
+Built words texts circuits = Read words texts circuits × AllByRecursion IsBuilt circuits
+
+-- of these the one of this number, counted from 1, is so, and each before it is of the other kind
+abbrev pub IsFirst : {X : Type 0} → (X → Type 0) → (X → Type 0) → List X → ℕ → Type 0
+IsFirst {X} Is Other xs number =
+    (front : List X) × (x : X) × (rest : List X) × (xs ≡ front ++ x ∷ rest) × (number ≡ length front + 1) × Is x × AllByRecursion Other front
 
 -- where each cause comes, for the words and the texts of the files: the order of causes is that of the phases
 abbrev pub Ends : List (List ℕ) → List (List ℕ) → Cause → Type 0
 Ends words texts BadWords = ¬ Asked words
 Ends words texts ReadFault = Asked words
-Ends words texts (TooLong file) = Asked words × IsFirst IsLong texts file
-Ends words texts (Unbuilt file) = Taken words texts × IsFirst (λ text. ¬ IsPlainText text) texts file
-Ends words texts Done = Read words texts
-Ends words texts WriteFault = Read words texts
+Ends words texts (TooLong file) = Asked words × IsFirst IsLong (λ text. ¬ IsLong text) texts file
+Ends words texts (Refused file r) = Taken words texts × IsFirst (IsRefusedAs r) HasCircuit texts file
+Ends words texts (Unbuilt file) = (circuits : List Circuit) × Read words texts circuits × IsFirst (λ c. ¬ IsBuilt c) IsBuilt circuits file
+Ends words texts Done = (circuits : List Circuit) × Built words texts circuits
+Ends words texts WriteFault = (circuits : List Circuit) × Built words texts circuits
 Ends words texts OutOfMemory = Unit {0}
 
 -- the causes that the words and the texts decide; the others come from a device or from want of memory
@@ -53,6 +74,7 @@ abbrev pub IsDecided : Cause → Type 0
 IsDecided BadWords = Unit {0}
 IsDecided ReadFault = ⊥
 IsDecided (TooLong _) = Unit {0}
+IsDecided (Refused _ _) = Unit {0}
 IsDecided (Unbuilt _) = Unit {0}
 IsDecided Done = Unit {0}
 IsDecided WriteFault = ⊥
@@ -94,6 +116,7 @@ status_of Done = 0
 status_of BadWords = 2
 status_of ReadFault = 3
 status_of (TooLong _) = 4
+status_of (Refused _ _) = 4
 status_of (Unbuilt _) = 4
 status_of WriteFault = 6
 status_of OutOfMemory = 7
@@ -105,6 +128,7 @@ lines_of BadWords =
     codes "sliq: bad words\nusage: sliq sim FILE [--input BITS] | eq FILE FILE | prob FILE | demo QUBITS GATES SEED, with --width --nodes --cache --reclaim --sift\n"
 lines_of ReadFault = codes "sliq: read fault\n"
 lines_of (TooLong file) = codes "sliq: file " ++ decimal file ++ codes " too long\n"
+lines_of (Refused file r) = codes "sliq: file " ++ decimal file ++ codes " statement " ++ decimal r.statement ++ codes ": " ++ reason_text r.why ++ codes "\n"
 lines_of (Unbuilt file) = codes "sliq: file " ++ decimal file ++ codes " not built yet\n"
 lines_of WriteFault = codes "sliq: write fault\n"
 lines_of OutOfMemory = codes "sliq: out of memory\n"

@@ -1,5 +1,4 @@
-pub mod PlainText
-pub mod Fronts
 pub mod Words
+pub mod Refusals
 pub mod Output
 pub mod Ends

@@ -5,10 +5,11 @@ use Rattle.ring_omega.specs.Ring.{is_zero}
 use Rattle.ring_omega.specs.Lowest.{lowest_form}
 use Rattle.bit_lists.specs.Lists.{all_lists}
 use Rattle.gate_set.specs.declared.gate.Gate.{Gate}
+use Rattle.gate_set.specs.Circuits.{Circuit}
 use Rattle.circuit_model.specs.Product.{amp, exponent}
 use Rattle.amp_printer.specs.declared.counted.Counted.TheVariants.{Qubits, States}
 use Rattle.amp_printer.specs.Texts.{state_line, count_line}
-use Rattle.sliq_engine.specs.PlainText.{ReadsAs}
+use Rattle.qasm_reader.specs.Reading.{ReadsAs, circuit}
 use Rattle.sliq_engine.specs.Words.{Command, command_of}
 use Rattle.sliq_engine.specs.Words.Command.{sim}
 
@@ -35,7 +36,7 @@ sim_output n gates = vector_output n (amp gates (replicate n false)) (exponent g
 -- the whole output of a command on the texts of its files
 abbrev pub OutputOf : Command → List (List ℕ) → List ℕ → Type 0
 OutputOf (sim name) texts bytes =
-    (text : List ℕ) × (n : ℕ) × (gates : List Gate) × (texts ≡ text ∷ []) × ReadsAs text n gates × (bytes ≡ sim_output n gates)
+    (text : List ℕ) × (c : Circuit) × (texts ≡ text ∷ []) × ReadsAs text 64 (circuit c) × (bytes ≡ sim_output c.qubits c.gates)
 
 -- the words ask for a command, whose whole output these bytes are
 abbrev pub IsOutput : List (List ℕ) → List (List ℕ) → List ℕ → Type 0

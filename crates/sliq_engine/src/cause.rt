@@ -2,6 +2,8 @@
 ghost use Rattle.std.specs.Prelude.{◌≡◌};
 ghost use Rattle.sliq_engine.specs.Ends.{status_of};
 
+use qasm_reader::Refusal;
+
 /// Why a run ended. Files are counted from 1.
 #[derive(Clone, Copy, Debug, PartialEq, Eq)]
 pub enum Cause {
@@ -13,7 +15,9 @@ pub enum Cause {
     ReadFault,
     /// This file has more than 16,777,216 bytes.
     TooLong { file: u8 },
-    /// This file's text is not of a kind that is read yet.
+    /// This file's text is refused.
+    Refused { file: u8, refusal: Refusal },
+    /// This file's circuit has more than 8 qubits or more than 100 gates, which the engine is not built for yet.
     Unbuilt { file: u8 },
     /// The output could not be written whole.
     WriteFault,
@@ -36,7 +40,7 @@ impl Cause {
             Cause::Done => 0,
             Cause::BadWords => 2,
             Cause::ReadFault => 3,
-            Cause::TooLong { .. } | Cause::Unbuilt { .. } => 4,
+            Cause::TooLong { .. } | Cause::Refused { .. } | Cause::Unbuilt { .. } => 4,
             Cause::WriteFault => 6,
             Cause::OutOfMemory => 7,
         }

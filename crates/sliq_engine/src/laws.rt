@@ -11,9 +11,14 @@ pub fn one_output()
     ensures { (words texts : List (List ℕ)) (a b : List ℕ) → IsOutput words texts a → IsOutput words texts b → a ≡ b }
 {}
 
-/// The causes that words and texts decide exclude one another: where no device fails and memory is there, a run has one cause.
+/// The causes that words and texts decide exclude one another: where no device fails and memory is there, a run has at most one.
 pub fn one_cause()
     ensures { (words texts : List (List ℕ)) (a b : Cause) → IsDecided a → IsDecided b → Ends words texts a → Ends words texts b → a ≡ b }
+{}
+
+/// Words and texts decide a cause: where no device fails and memory is there, each run has one.
+pub fn some_cause()
+    ensures { (words texts : List (List ℕ)) → (cause : Cause) × IsDecided cause × Ends words texts cause }
 {}
 
 /// What `sim` writes of small circuits: a Bell pair, no gate, H twice, and H T H.

@@ -2,18 +2,15 @@
 #![tactic(auto)]
 
 mod cause;
-mod fronts;
 mod laws;
 mod message;
 mod output;
-mod plain_text;
 mod simulation;
 mod top;
 mod words;
 
 pub use cause::{Cause, Ended};
-pub use laws::{one_cause, one_output, small_outputs};
-pub use plain_text::one_plain_reading;
+pub use laws::{one_cause, one_output, small_outputs, some_cause};
 pub use top::{end, run};
 
 #[cfg(test)]

@@ -1,9 +1,11 @@
 ghost use Rattle.std.specs.Prelude.{◌≤◌};
 
-use crate::{Cause, Ended, end, one_cause, one_output, one_plain_reading, run, small_outputs};
+use crate::{Cause, Ended, end, one_cause, one_output, run, small_outputs, some_cause};
 use bit_lists::OutOfMemory;
 use circuit_model::product_by_last_gate;
 use outside::{MemoryShelf, MemorySink, Named};
+use qasm_lex::AngleRefusal;
+use qasm_reader::{Refusal, Why};
 use std::alloc::Global;
 
 const BELL: &[u8] = b"OPENQASM 2.0;\nqreg q[2];\nh q[0];\ncx q[0],q[1];\n";
@@ -68,8 +70,38 @@ fn run_on(alloc: Global, words: &[&str], text: &[u8], devices: Devices) -> Resul
 
 #[test]
 fn circuits_and_their_listings(rt: HostRuntime) -> Result<(), OutOfMemory> {
-    let rows: [(&str, &[u8], &[u8]); 7] = [
+    let rows: [(&str, &[u8], &[u8]); 13] = [
         ("bell pair", BELL, BELL_OUTPUT),
+        (
+            "the usual exported file",
+            b"OPENQASM 2.0;\ninclude \"qelib1.inc\";\nqreg q[2];\ncreg c[2];\nh q[0];\ncx q[0],q[1];\nbarrier q;\nmeasure q -> c;\n",
+            BELL_OUTPUT,
+        ),
+        (
+            "bell pair on one line, with a comment",
+            b"OPENQASM 2.0;qreg q [2] ;\th  q[0]; cx q[0] , q[1];// the end",
+            BELL_OUTPUT,
+        ),
+        (
+            "no register",
+            b"OPENQASM 2.0;",
+            b"qubits 0\n|> (0,0,0,1)/sqrt2^0\nstates 1\n",
+        ),
+        (
+            "rx by a quarter turn",
+            b"OPENQASM 2.0; qreg q[1]; rx(2*pi/4) q[0];",
+            b"qubits 1\n|0> (0,0,0,1)/sqrt2^1\n|1> (0,-1,0,0)/sqrt2^1\nstates 2\n",
+        ),
+        (
+            "rx by three quarter turns back",
+            b"OPENQASM 2.0; qreg q[1]; rx(-3*pi/2) q[0];",
+            b"qubits 1\n|0> (0,0,0,-1)/sqrt2^1\n|1> (0,1,0,0)/sqrt2^1\nstates 2\n",
+        ),
+        (
+            "ry forth, and back on the other register",
+            b"OPENQASM 2.0; qreg q[1]; qreg r[1]; ry(pi/2) q; ry(-pi/2) r;",
+            b"qubits 2\n|00> (0,0,0,1)/sqrt2^2\n|01> (0,0,0,-1)/sqrt2^2\n|10> (0,0,0,1)/sqrt2^2\n|11> (0,0,0,-1)/sqrt2^2\nstates 4\n",
+        ),
         (
             "no gates",
             b"OPENQASM 2.0;\nqreg q[1];\n",
@@ -142,25 +174,228 @@ fn causes_and_their_lines(rt: HostRuntime) -> Result<(), OutOfMemory> {
         }
     );
     assert_eq!(rt; missing.err.written(), b"sliq: read fault\n".as_slice());
-    let other: [&[u8]; 3] = [
-        b"OPENQASM 2.0;\nqreg q[2];\nh q[2];\n",
-        b"",
-        b"OPENQASM 3;\n",
+    Ok(())
+}
+
+fn refused(statement: u32, why: Why) -> Cause {
+    Cause::Refused {
+        file: 1,
+        refusal: Refusal { statement, why },
+    }
+}
+
+// Each text is refused with nothing on out.
+#[test]
+fn refused_texts(rt: HostRuntime) -> Result<(), OutOfMemory> {
+    let rows: [(&str, &[u8], u32, Why, &[u8]); 14] = [
+        (
+            "empty text",
+            b"",
+            0,
+            Why::NoVersion,
+            b"sliq: file 1 statement 0: NoVersion\n",
+        ),
+        (
+            "another version",
+            b"OPENQASM 3;\n",
+            1,
+            Why::NoVersion,
+            b"sliq: file 1 statement 1: NoVersion\n",
+        ),
+        (
+            "unclosed measure",
+            b"OPENQASM 2.0; qreg q[1]; creg c[1]; measure q[0] -",
+            4,
+            Why::NotAStatement,
+            b"sliq: file 1 statement 4: NotAStatement\n",
+        ),
+        (
+            "unclosed gate",
+            b"OPENQASM 2.0;\nqreg q[2];\nx q[0]",
+            3,
+            Why::NotAStatement,
+            b"sliq: file 1 statement 3: NotAStatement\n",
+        ),
+        (
+            "bad byte",
+            b"OPENQASM 2.0;\nqreg q[1];\n@",
+            3,
+            Why::BadByte(25),
+            b"sliq: file 1 statement 3: BadByte 25\n",
+        ),
+        (
+            "too many qubits",
+            b"OPENQASM 2.0; qreg q[65];",
+            2,
+            Why::TooManyQubits,
+            b"sliq: file 1 statement 2: TooManyQubits\n",
+        ),
+        (
+            "index of the size",
+            b"OPENQASM 2.0;\nqreg q[2];\nh q[2];\n",
+            3,
+            Why::IndexOutOfRange,
+            b"sliq: file 1 statement 3: IndexOutOfRange\n",
+        ),
+        (
+            "one place for two",
+            b"OPENQASM 2.0;\nqreg q[2];\ncx q[0];\n",
+            3,
+            Why::WrongCount,
+            b"sliq: file 1 statement 3: WrongCount\n",
+        ),
+        (
+            "repeated qubit",
+            b"OPENQASM 2.0; qreg q[2]; cx q[0],q[0];",
+            3,
+            Why::RepeatedQubit,
+            b"sliq: file 1 statement 3: RepeatedQubit\n",
+        ),
+        (
+            "sizes differ",
+            b"OPENQASM 2.0; qreg q[2]; qreg r[3]; cx q,r;",
+            4,
+            Why::SizesDiffer,
+            b"sliq: file 1 statement 4: SizesDiffer\n",
+        ),
+        (
+            "decimal angle",
+            b"OPENQASM 2.0; qreg q[1]; rx(1.5707963267948966) q[0];",
+            3,
+            Why::AngleRefused(AngleRefusal::NotExact),
+            b"sliq: file 1 statement 3: AngleRefused NotExact\n",
+        ),
+        (
+            "division by zero",
+            b"OPENQASM 2.0; qreg q[1]; ry(pi/0) q[0];",
+            3,
+            Why::AngleRefused(AngleRefusal::ZeroDivisor),
+            b"sliq: file 1 statement 3: AngleRefused ZeroDivisor\n",
+        ),
+        (
+            "third of a turn",
+            b"OPENQASM 2.0; qreg q[1]; rx(pi/3) q[0];",
+            3,
+            Why::OffGrid,
+            b"sliq: file 1 statement 3: OffGrid\n",
+        ),
+        (
+            "gate after measure",
+            b"OPENQASM 2.0; qreg q[1]; creg c[1]; measure q -> c; x q;",
+            5,
+            Why::Measured,
+            b"sliq: file 1 statement 5: Measured\n",
+        ),
     ];
-    for text in other {
+    for (name, text, statement, why, lines) in rows {
         let ran = run_on(rt.alloc(), &["sliq", "sim", "a"], text, CALM)?;
         assert_eq!(rt;
             ran.ended,
             Ended {
                 status: 4,
-                cause: Cause::Unbuilt { file: 1 }
-            }
+                cause: refused(statement, why)
+            },
+            "{name}"
         );
-        assert_eq!(rt; ran.out.written(), b"".as_slice());
-        assert_eq!(rt;
-            ran.err.written(),
-            b"sliq: file 1 not built yet\n".as_slice()
-        );
+        assert_eq!(rt; ran.out.written(), b"".as_slice(), "{name}");
+        assert_eq!(rt; ran.err.written(), lines, "{name}");
+    }
+    Ok(())
+}
+
+// A text of one line many times.
+fn repeated(
+    alloc: Global,
+    head: &[u8],
+    line: &[u8],
+    times: u32,
+    tail: &[u8],
+) -> Result<Vec<u8>, OutOfMemory> {
+    let mut text = Vec::from_slice(alloc, head)?;
+    for _ in 0..times {
+        text.extend_from_slice(line)?;
+    }
+    text.extend_from_slice(tail)?;
+    Ok(text)
+}
+
+// At most eight qubits and a hundred gates: 25 calls on a register of four make a hundred.
+#[test]
+fn what_is_built(rt: HostRuntime) -> Result<(), OutOfMemory> {
+    let head = b"OPENQASM 2.0;\nqreg q[4];\nqreg r[4];\n".as_slice();
+    let unbuilt = Cause::Unbuilt { file: 1 };
+    let unbuilt_lines = b"sliq: file 1 not built yet\n".as_slice();
+    let most = b"qubits 8\n|11110000> (0,0,0,1)/sqrt2^0\nstates 1\n".as_slice();
+    let rows: [(&[u8], Cause, u8, &[u8], &[u8]); 5] = [
+        (b"", Cause::Done, 0, most, b""),
+        (b"x r[0];\n", unbuilt, 4, b"", unbuilt_lines),
+        (b"x r;\n", unbuilt, 4, b"", unbuilt_lines),
+        (b"qreg s[1];\n", unbuilt, 4, b"", unbuilt_lines),
+        (b"qreg s[56];\n", unbuilt, 4, b"", unbuilt_lines),
+    ];
+    for (tail, cause, status, output, lines) in rows {
+        let text = repeated(rt.alloc(), head, b"x q;\n", 25, tail)?;
+        let ran = run_on(rt.alloc(), &["sliq", "sim", "a"], &text, CALM)?;
+        assert_eq!(rt; ran.ended, Ended { status, cause }, "{tail:?}");
+        assert_eq!(rt; ran.out.written(), output, "{tail:?}");
+        assert_eq!(rt; ran.err.written(), lines, "{tail:?}");
+    }
+    let nine = run_on(
+        rt.alloc(),
+        &["sliq", "sim", "a"],
+        b"OPENQASM 2.0;\nqreg q[9];\n",
+        CALM,
+    )?;
+    assert_eq!(rt; nine.ended.cause, unbuilt);
+    Ok(())
+}
+
+// Each reason by its name.
+#[test]
+fn reasons_on_err(rt: HostRuntime) -> Result<(), OutOfMemory> {
+    let rows: [(Why, &[u8]); 20] = [
+        (Why::BadByte(0), b"BadByte 0\n"),
+        (Why::NoVersion, b"NoVersion\n"),
+        (Why::NotAStatement, b"NotAStatement\n"),
+        (Why::OutOfProfile, b"OutOfProfile\n"),
+        (Why::UnknownName, b"UnknownName\n"),
+        (Why::Redeclared, b"Redeclared\n"),
+        (Why::UnknownRegister, b"UnknownRegister\n"),
+        (Why::IndexOutOfRange, b"IndexOutOfRange\n"),
+        (Why::WrongCount, b"WrongCount\n"),
+        (Why::SizesDiffer, b"SizesDiffer\n"),
+        (Why::RepeatedQubit, b"RepeatedQubit\n"),
+        (
+            Why::AngleRefused(AngleRefusal::TooLong),
+            b"AngleRefused TooLong\n",
+        ),
+        (
+            Why::AngleRefused(AngleRefusal::Malformed),
+            b"AngleRefused Malformed\n",
+        ),
+        (
+            Why::AngleRefused(AngleRefusal::NotExact),
+            b"AngleRefused NotExact\n",
+        ),
+        (
+            Why::AngleRefused(AngleRefusal::ZeroDivisor),
+            b"AngleRefused ZeroDivisor\n",
+        ),
+        (
+            Why::AngleRefused(AngleRefusal::TooWide),
+            b"AngleRefused TooWide\n",
+        ),
+        (Why::OffGrid, b"OffGrid\n"),
+        (Why::Measured, b"Measured\n"),
+        (Why::TooManyQubits, b"TooManyQubits\n"),
+        (Why::TooManyGates, b"TooManyGates\n"),
+    ];
+    let front = b"sliq: file 1 statement 4000000000: ".as_slice();
+    for (why, name) in rows {
+        let mut err = MemorySink::new(rt.alloc(), 100, 100, Vec::new(rt.alloc()))?;
+        let ended = end(refused(4_000_000_000, why), &mut err);
+        assert_eq!(rt; ended.status, 4, "{name:?}");
+        assert_eq!(rt; err.written().strip_prefix(front), Some(name), "{name:?}");
     }
     Ok(())
 }
@@ -260,8 +495,8 @@ fn each_write_fails_in_turn(rt: HostRuntime) -> Result<(), OutOfMemory> {
 // Each write on err fails in turn: it changes neither status nor cause.
 #[test]
 fn each_write_on_err_fails_in_turn(rt: HostRuntime) -> Result<(), OutOfMemory> {
-    let lines = b"sliq: file 1 not built yet\n".as_slice();
-    for bad_err_write in 1..28 {
+    let lines = b"sliq: file 1 statement 1: NoVersion\n".as_slice();
+    for bad_err_write in 1..37 {
         let devices = Devices {
             write_most: 1,
             bad_err_write,
@@ -273,7 +508,7 @@ fn each_write_on_err_fails_in_turn(rt: HostRuntime) -> Result<(), OutOfMemory> {
             ran.ended,
             Ended {
                 status: 4,
-                cause: Cause::Unbuilt { file: 1 }
+                cause: refused(1, Why::NoVersion)
             }
         );
         assert_eq!(rt; ran.err.written(), &lines[..kept], "write {bad_err_write}");
@@ -294,8 +529,8 @@ fn ends_and_laws(rt: HostRuntime) -> Result<(), OutOfMemory> {
     );
     assert_eq!(rt; err.written(), b"sliq: out of memory\n".as_slice());
     one_cause();
+    some_cause();
     one_output();
-    one_plain_reading();
     product_by_last_gate();
     small_outputs();
     Ok(())

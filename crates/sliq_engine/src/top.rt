@@ -1,21 +1,31 @@
 //! The top call.
-ghost use Rattle.std.specs.Prelude.{◌≡◌, ◌≤◌, ℕ, IsTrue, map, string_bytes, None};
+ghost use Rattle.std.specs.Prelude.{◌≡◌, ◌≤◌, ◌↔◌, ℕ, IsTrue, map, string_bytes, None};
 ghost use Rattle.outside.specs.Outside.{Rose, SameTexts, NoneFalls};
 ghost use Rattle.sliq_engine.specs.Words.{command_of};
-ghost use Rattle.sliq_engine.specs.Ends.{RunsTo, FileRose, Tells, status_of, lines_of};
+ghost use Rattle.sliq_engine.specs.Ends.{RunsTo, FileRose, Tells, IsBuilt, status_of, lines_of};
 
 use crate::cause::{Cause, Ended};
 use crate::message::lines_of;
 use crate::output::{SendStop, send_sim};
-use crate::plain_text::{PlainStop, read_plain};
 use crate::words::file_of;
+use gate_set::Circuit;
 use outside::{Shelf, Sink, TakeStop, read_all, write_all};
+use qasm_reader::{ReadStop, read};
 use std::alloc::Global;
+
+/// The most qubits of a circuit.
+const QUBITS: u8 = 64;
+
+/// The most qubits and gates of a circuit that is simulated.
+const BUILT_QUBITS: u8 = 8;
+
+const BUILT_GATES: usize = 100;
 
 /// Carries out the command of the words: reads its files from the shelf, writes its output on `out`, and says on `err` why it
 /// stopped.
 ///
-/// Where the words ask for no command it takes no memory. Nothing is written on `out` before all files were read to their end.
+/// Where the words ask for no command it takes no memory. Nothing is written on `out` before all files were read to their end and
+/// their texts were read as circuits.
 pub fn run<S: Shelf, K: Sink, E: Sink>(
     alloc: Global,
     words: &[String],
@@ -85,14 +95,24 @@ fn carry_out<S: Shelf, K: Sink>(
         Err(TakeStop::TooLong) => return Cause::TooLong { file: 1 },
         Err(TakeStop::OutOfMemory) => return Cause::OutOfMemory,
     };
-    let plain = match read_plain(alloc, &text) {
-        Ok(plain) => plain,
-        Err(PlainStop::NotPlain) => return Cause::Unbuilt { file: 1 },
-        Err(PlainStop::OutOfMemory) => return Cause::OutOfMemory,
+    let circuit = match read(alloc, &text, QUBITS) {
+        Ok(circuit) => circuit,
+        Err(ReadStop::Refused(refusal)) => return Cause::Refused { file: 1, refusal },
+        Err(ReadStop::OutOfMemory) => return Cause::OutOfMemory,
     };
-    match send_sim(alloc, out, plain.qubits, &plain.gates) {
+    if !is_built(&circuit) {
+        return Cause::Unbuilt { file: 1 };
+    }
+    match send_sim(alloc, out, circuit.qubits(), circuit.gates()) {
         Ok(()) => Cause::Done,
         Err(SendStop::Fault) => Cause::WriteFault,
         Err(SendStop::OutOfMemory) => Cause::OutOfMemory,
     }
+}
+
+// Whether the engine is built for it.
+fn is_built(circuit: &Circuit) -> bool
+    ensures { IsTrue result ↔ IsBuilt circuit.now }
+{
+    circuit.qubits() <= BUILT_QUBITS && circuit.gates().len() <= BUILT_GATES
 }

@@ -1,49 +1,69 @@
-use Rattle.std.proofs.Common.{◌≡◌, ◌+◌, List, ℕ, [], ◌∷◌, ◌++◌, length, sym, ◌∙◌, ap, refl, subst, suc}
+use Rattle.std.proofs.Common.{◌≡◌, List, ℕ, ap, refl, subst}
+use Rattle.std.proofs.Math.Path.{ap₂}
 use Rattle.std.specs.List.{AllByRecursion}
+use Rattle.gate_set.specs.Circuits.{Circuit}
+use Rattle.qasm_reader.specs.declared.reason.Refusal.{Refusal}
 use Rattle.sliq_engine.specs.declared.cause.Cause.{Cause}
-use Rattle.sliq_engine.specs.declared.cause.Cause.TheVariants.{Done, BadWords, ReadFault, TooLong, Unbuilt, WriteFault, OutOfMemory}
-use Rattle.sliq_engine.specs.Ends.{Ends, IsDecided, IsFirst, IsLong, IsPlainText}
+use Rattle.sliq_engine.specs.declared.cause.Cause.TheVariants.{Done, BadWords, ReadFault, TooLong, Refused, Unbuilt, WriteFault, OutOfMemory}
+use Rattle.sliq_engine.specs.Ends.{Ends, IsDecided, IsFirst, IsLong, IsBuilt, HasCircuit, IsRefusedAs, Taken, Read, Built}
+use Rattle.sliq_engine.proofs.Firsts.{not_first, same_first}
+use Rattle.sliq_engine.proofs.Readings.{one_refusal, refused_apart, have_circuits, same_circuits}
 use Rattle.sliq_engine.proofs.laws.one_cause.Goals as goal
 
-member : (Q : List ℕ → Type 0) (f : List (List ℕ)) (t : List ℕ) (r : List (List ℕ)) → AllByRecursion Q (f ++ t ∷ r) → Q t
-member Q [] t r h = h.0
-member Q (x ∷ f) t r h = member Q f t r h.1
+-- no text is too long, refused, or beyond what is built, where a later phase is reached
+not_long : (w t : List (List ℕ)) (i : ℕ) → Taken w t → IsFirst IsLong (λ text. ¬ IsLong text) t i → ⊥
+not_long w t i taken first = not_first IsLong (λ text. ¬ IsLong text) t i (λ x long short. short long) taken.1 first
 
--- one of the texts is so
-first_is : (P Q : List ℕ → Type 0) (texts : List (List ℕ)) (i : ℕ) → AllByRecursion Q texts → IsFirst P texts i → (t : List ℕ) × P t × Q t
-first_is P Q texts i all s = let R : List (List ℕ) → Type 0 = λ l. AllByRecursion Q l in (s.1, s.5, member Q s.0 s.1 s.2 (subst R s.3 all))
+not_refused : (w t : List (List ℕ)) (cs : List Circuit) (r : Refusal) (i : ℕ) → Read w t cs → IsFirst (IsRefusedAs r) HasCircuit t i → ⊥
+not_refused w t cs r i read first = not_first (IsRefusedAs r) HasCircuit t i (refused_apart r) (have_circuits t cs read.1) first
 
-fronts : (P : List ℕ → Type 0) (f g : List (List ℕ)) (t u : List ℕ) (r s : List (List ℕ)) → f ++ t ∷ r ≡ g ++ u ∷ s → P t → P u
-    → AllByRecursion (λ t. P t → ⊥) f → AllByRecursion (λ t. P t → ⊥) g → length f ≡ length g
-fronts P [] [] t u r s e p q a b = refl
-fronts P [] (y ∷ g) t u r s e p q a b = let same : t ≡ y = cc in absurd (b.0 (subst P same p))
-fronts P (x ∷ f) [] t u r s e p q a b = let same : u ≡ x = cc in absurd (a.0 (subst P same q))
-fronts P (x ∷ f) (y ∷ g) t u r s e p q a b =
-    let rest : f ++ t ∷ r ≡ g ++ u ∷ s = cc in
-    let size = fronts P f g t u r s rest p q a.1 b.1 in ap suc size
+not_beyond : (w t : List (List ℕ)) (cs ds : List Circuit) (i : ℕ) → Built w t cs → Read w t ds → IsFirst (λ c. ¬ IsBuilt c) IsBuilt ds i → ⊥
+not_beyond w t cs ds i built read first =
+    let R : List Circuit → Type 0 = λ l. AllByRecursion IsBuilt l in
+    not_first (λ c. ¬ IsBuilt c) IsBuilt ds i (λ x out inside. out inside) (subst R (same_circuits t cs ds built.0.1 read.1) built.1) first
 
-same_first : (P : List ℕ → Type 0) (texts : List (List ℕ)) (i j : ℕ) → IsFirst P texts i → IsFirst P texts j → i ≡ j
-same_first P texts i j s t =
-    let size = fronts P s.0 t.0 s.1 t.1 s.2 t.2 (sym s.3 ∙ t.3) s.5 t.5 s.6 t.6 in
-    s.4 ∙ ap (λ n. n + 1) size ∙ sym t.4
+-- two causes of one kind tell the same
+same_long : (t : List (List ℕ)) (i j : ℕ) → IsFirst IsLong (λ text. ¬ IsLong text) t i → IsFirst IsLong (λ text. ¬ IsLong text) t j → i ≡ j
+same_long t i j f g = (same_first IsLong IsLong (λ text. ¬ IsLong text) t i j (λ x long short. short long) (λ x long short. short long) f g).0
+
+same_refusal : (t : List (List ℕ)) (r s : Refusal) (i j : ℕ) → IsFirst (IsRefusedAs r) HasCircuit t i → IsFirst (IsRefusedAs s) HasCircuit t j → Refused i r ≡ Refused j s
+same_refusal t r s i j f g =
+    let both = same_first (IsRefusedAs r) (IsRefusedAs s) HasCircuit t i j (refused_apart r) (refused_apart s) f g in
+    ap₂ (λ (n : ℕ) (q : Refusal). Refused n q) both.0 (one_refusal both.1 r s both.2 both.3)
+
+same_beyond : (w t : List (List ℕ)) (cs ds : List Circuit) (i j : ℕ) → Read w t cs → Read w t ds → IsFirst (λ c. ¬ IsBuilt c) IsBuilt cs i
+    → IsFirst (λ c. ¬ IsBuilt c) IsBuilt ds j → i ≡ j
+same_beyond w t cs ds i j p q f g =
+    let F : List Circuit → Type 0 = λ l. IsFirst (λ c. ¬ IsBuilt c) IsBuilt l i in
+    let moved = subst F (same_circuits t cs ds p.1 q.1) f in
+    (same_first (λ c. ¬ IsBuilt c) (λ c. ¬ IsBuilt c) IsBuilt ds i j (λ x out inside. out inside) (λ x out inside. out inside) moved g).0
 
 same : (words texts : List (List ℕ)) (a b : Cause) → IsDecided a → IsDecided b → Ends words texts a → Ends words texts b → a ≡ b
 same w t Done Done d e h k = refl
-same w t Done BadWords d e h k = absurd (k h.0.0)
-same w t Done (TooLong j) d e h k = let x = first_is IsLong (λ t. IsLong t → ⊥) t j h.0.1 k.1 in absurd (x.2 x.1)
-same w t Done (Unbuilt j) d e h k = let x = first_is (λ t. IsPlainText t → ⊥) IsPlainText t j h.1 k.1 in absurd (x.1 x.2)
-same w t BadWords Done d e h k = absurd (h k.0.0)
+same w t Done BadWords d e h k = absurd (k h.1.0.0.0)
+same w t Done (TooLong j) d e h k = absurd (not_long w t j h.1.0.0 k.1)
+same w t Done (Refused j r) d e h k = absurd (not_refused w t h.0 r j h.1.0 k.1)
+same w t Done (Unbuilt j) d e h k = absurd (not_beyond w t h.0 k.0 j h.1 k.1 k.2)
+same w t BadWords Done d e h k = absurd (h k.1.0.0.0)
 same w t BadWords BadWords d e h k = refl
 same w t BadWords (TooLong j) d e h k = absurd (h k.0)
-same w t BadWords (Unbuilt j) d e h k = absurd (h k.0.0)
-same w t (TooLong i) Done d e h k = let x = first_is IsLong (λ t. IsLong t → ⊥) t i k.0.1 h.1 in absurd (x.2 x.1)
+same w t BadWords (Refused j r) d e h k = absurd (h k.0.0)
+same w t BadWords (Unbuilt j) d e h k = absurd (h k.1.0.0)
+same w t (TooLong i) Done d e h k = absurd (not_long w t i k.1.0.0 h.1)
 same w t (TooLong i) BadWords d e h k = absurd (k h.0)
-same w t (TooLong i) (TooLong j) d e h k = ap (λ n. TooLong n) (same_first IsLong t i j h.1 k.1)
-same w t (TooLong i) (Unbuilt j) d e h k = let x = first_is IsLong (λ t. IsLong t → ⊥) t i k.0.1 h.1 in absurd (x.2 x.1)
-same w t (Unbuilt i) Done d e h k = let x = first_is (λ t. IsPlainText t → ⊥) IsPlainText t i k.1 h.1 in absurd (x.1 x.2)
-same w t (Unbuilt i) BadWords d e h k = absurd (k h.0.0)
-same w t (Unbuilt i) (TooLong j) d e h k = let x = first_is IsLong (λ t. IsLong t → ⊥) t j h.0.1 k.1 in absurd (x.2 x.1)
-same w t (Unbuilt i) (Unbuilt j) d e h k = ap (λ n. Unbuilt n) (same_first (λ t. IsPlainText t → ⊥) t i j h.1 k.1)
+same w t (TooLong i) (TooLong j) d e h k = ap (λ n. TooLong n) (same_long t i j h.1 k.1)
+same w t (TooLong i) (Refused j r) d e h k = absurd (not_long w t i k.0 h.1)
+same w t (TooLong i) (Unbuilt j) d e h k = absurd (not_long w t i k.1.0 h.1)
+same w t (Refused i r) Done d e h k = absurd (not_refused w t k.0 r i k.1.0 h.1)
+same w t (Refused i r) BadWords d e h k = absurd (k h.0.0)
+same w t (Refused i r) (TooLong j) d e h k = absurd (not_long w t j h.0 k.1)
+same w t (Refused i r) (Refused j s) d e h k = same_refusal t r s i j h.1 k.1
+same w t (Refused i r) (Unbuilt j) d e h k = absurd (not_refused w t k.0 r i k.1 h.1)
+same w t (Unbuilt i) Done d e h k = absurd (not_beyond w t k.0 h.0 i k.1 h.1 h.2)
+same w t (Unbuilt i) BadWords d e h k = absurd (k h.1.0.0)
+same w t (Unbuilt i) (TooLong j) d e h k = absurd (not_long w t j h.1.0 k.1)
+same w t (Unbuilt i) (Refused j r) d e h k = absurd (not_refused w t h.0 r j h.1 k.1)
+same w t (Unbuilt i) (Unbuilt j) d e h k = ap (λ n. Unbuilt n) (same_beyond w t h.0 k.0 i j h.1 k.1 h.2 k.2)
 same w t ReadFault b d e h k = absurd d
 same w t WriteFault b d e h k = absurd d
 same w t OutOfMemory b d e h k = absurd d

@@ -1,9 +1,9 @@
-use Rattle.std.proofs.Common.{◌≡◌, ◌+◌, Bool, not, cond, ap, sym, ◌∙◌, ℕ, length, take, arith}
+use Rattle.std.proofs.Common.{◌≡◌, ◌+◌, not, cond, ap, sym, ◌∙◌, ℕ, length, take, arith}
 use Rattle.std.proofs.Math.Seq.{take-length}
 use Rattle.std.specs.List.{count_by}
 use Rattle.std.proofs.lemmas.List.Sums.{fold_more}
 use Rattle.ring_omega.specs.declared.quad.Quad.{Quad}
-use Rattle.ring_omega.specs.Ring.{is_zero, zero_quad}
+use Rattle.ring_omega.specs.Ring.{is_zero}
 use Rattle.sliq_engine.proofs.ListingLemmas.{states_of-at}
 use Rattle.sliq_engine.proofs.output.count_of.Goals as goal
 

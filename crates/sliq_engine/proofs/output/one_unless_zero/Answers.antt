@@ -1,6 +1,6 @@
-use Rattle.std.proofs.Common.{◌≡◌, Bool, true, false, not, cond, ap, sym, ◌∙◌, ℕ}
+use Rattle.std.proofs.Common.{not, cond, ap, sym, ◌∙◌}
 use Rattle.std.proofs.lemmas.Bool.Decides.{same_from_decides}
-use Rattle.ring_omega.specs.Ring.{is_zero, zero_quad}
+use Rattle.ring_omega.specs.Ring.{is_zero}
 use Rattle.ring_omega.proofs.RingLemmas.{Decides-is_zero}
 use Rattle.sliq_engine.proofs.output.one_unless_zero.Goals as goal
 

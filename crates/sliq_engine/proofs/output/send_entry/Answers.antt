@@ -1,4 +1,4 @@
-use Rattle.std.proofs.Common.{◌≡◌, ℕ, List, subst, sym, OnOk, OnErr}
+use Rattle.std.proofs.Common.{ℕ, List, subst, sym, OnOk, OnErr}
 use Rattle.outside.specs.Buffering.{Sent, SentSome}
 use Rattle.outside.proofs.BufferingLemmas.{sent_nothing}
 use Rattle.sliq_engine.proofs.ListingLemmas.{line_at-zero, line_at-other}

@@ -1,4 +1,4 @@
-use Rattle.std.proofs.Common.{◌≡◌, List, ℕ, length, replicate, false, OnOk, OnErr, subst, ◌∙◌, ap}
+use Rattle.std.proofs.Common.{List, ℕ, length, replicate, false, OnOk, OnErr, subst, ◌∙◌, ap}
 use Rattle.circuit_model.specs.Product.{amp}
 use Rattle.circuit_model.proofs.VectorLemmas.{length-map-all_lists}
 use Rattle.outside.specs.Bytes.{Added, AddedSome}

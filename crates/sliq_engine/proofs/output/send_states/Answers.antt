@@ -1,4 +1,4 @@
-use Rattle.std.proofs.Common.{◌≡◌, ◌++◌, ◌+◌, ◌<◌, ◌^◌, List, ℕ, [], rules, arith, subst, sym, ◌∙◌, ap, length, false, replicate}
+use Rattle.std.proofs.Common.{◌≡◌, ◌++◌, ◌+◌, ◌<◌, ◌^◌, List, ℕ, rules, arith, subst, sym, ◌∙◌, ap, length, false}
 use Rattle.std.proofs.lemmas.List.{length-replicate}
 use Rattle.bit_lists.specs.Lists.{place_of}
 use Rattle.bit_lists.specs.Places.{place_of-zeros}
@@ -7,7 +7,7 @@ use Rattle.outside.specs.Buffering.{Sent, SentSome}
 use Rattle.outside.proofs.BufferingLemmas.{sent_nothing, sent_then, sent_fault, some_front}
 use Rattle.ring_omega.specs.Ring.{zero_quad}
 use Rattle.std.proofs.Common.{get_or}
-use Rattle.sliq_engine.specs.Output.{line_at, listing_of}
+use Rattle.sliq_engine.specs.Output.{line_at}
 use Rattle.sliq_engine.proofs.ListingLemmas.{lines, lines_none, lines_more, lines_all, lines_front, on_err}
 use Rattle.sliq_engine.proofs.output.send_states.Goals as goal
 

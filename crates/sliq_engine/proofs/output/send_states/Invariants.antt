@@ -1,5 +1,5 @@
-use Rattle.std.proofs.Common.{◌≡◌, ◌<◌, ◌≤◌, ◌^◌, length, take}
-use Rattle.bit_lists.specs.Lists.{place_of, all_lists}
+use Rattle.std.proofs.Common.{◌≡◌, ◌<◌, ◌≤◌, ◌^◌, length}
+use Rattle.bit_lists.specs.Lists.{place_of}
 use Rattle.circuit_model.specs.Vector.{at}
 use Rattle.outside.specs.Buffering.{Sent}
 use Rattle.sliq_engine.proofs.ListingLemmas.{lines}

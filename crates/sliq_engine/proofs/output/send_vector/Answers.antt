@@ -1,4 +1,4 @@
-use Rattle.std.proofs.Common.{◌≡◌, ◌++◌, List, ℕ, [], subst, sym, ◌∙◌, ap}
+use Rattle.std.proofs.Common.{◌++◌, ℕ, subst}
 use Rattle.circuit_model.specs.Vector.{at}
 use Rattle.outside.specs.Bytes.{Added, AddedSome}
 use Rattle.outside.proofs.BufferingLemmas.{sent_then, sent_fault, some_front, some_of, flushed, flushed_some}

@@ -1,7 +1,7 @@
-use Rattle.std.proofs.Common.{rules, ◌≡◌, ◌+◌, ◌<◌, ◌≤◌, ◌^◌, ℕ, List, Bool, [], false, map, take, length, get_or, replicate, sym, ◌∙◌, ap, subst, arith, All}
+use Rattle.std.proofs.Common.{rules, ◌≡◌, ◌<◌, ◌≤◌, ◌^◌, ℕ, List, Bool, [], false, map, take, length, get_or, replicate, sym, ◌∙◌, ap, subst, arith, All}
 use Rattle.std.proofs.lemmas.List.{length-take, get_or-map}
 use Rattle.std.proofs.lemmas.List.Sums.{fold_more}
-use Rattle.std.proofs.lemmas.List.Elements.{All-get_or, All-take}
+use Rattle.std.proofs.lemmas.List.Elements.{All-take}
 use Rattle.std.proofs.Math.Pow.{pow_mono}
 use Rattle.ring_omega.specs.declared.quad.Quad.{Quad}
 use Rattle.ring_omega.specs.Bounds.{IsWithin}

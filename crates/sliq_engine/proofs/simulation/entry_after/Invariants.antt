@@ -1,4 +1,4 @@
-use Rattle.std.proofs.Common.{◌≡◌, ◌<◌, ◌^◌, ◌*◌, ◌+◌, List, Bool, length, take}
+use Rattle.std.proofs.Common.{◌≡◌, ◌^◌, ◌*◌, List, Bool, length, take}
 use Rattle.ring_omega.specs.Bounds.{IsWithin}
 use Rattle.bit_lists.specs.Lists.{place_of, bits_at, with_bits, all_lists}
 use Rattle.gate_set.specs.Matrix.{entry_of, times_entry}

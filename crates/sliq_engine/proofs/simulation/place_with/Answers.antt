@@ -1,4 +1,4 @@
-use Rattle.std.proofs.Common.{◌≡◌, ◌<◌, length, take, get_or, set, sym, ap, ◌∙◌, arith, List, Bool, false}
+use Rattle.std.proofs.Common.{◌≡◌, length, take, get_or, set, sym, ap, ◌∙◌}
 use Rattle.bit_lists.specs.Lists.{place_of, with_bits}
 use Rattle.circuit_model.proofs.SumLemmas.{length-with_bits, with_bits_more}
 use Rattle.sliq_engine.proofs.simulation.place_with.Goals as goal

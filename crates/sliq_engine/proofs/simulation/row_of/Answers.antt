@@ -1,4 +1,4 @@
-use Rattle.std.proofs.Common.{◌≡◌, ◌<◌, ◌≤◌, ◌^◌, ◌+◌, ◌*◌, ap, sym, ◌∙◌, arith, suc, length, get_or, false, ℕ}
+use Rattle.std.proofs.Common.{◌≡◌, ◌≤◌, ◌^◌, ◌+◌, ◌*◌, ap, sym, ◌∙◌, arith, suc, get_or, false, ℕ}
 use Rattle.std.proofs.Math.Pow.{pow_mono}
 use Rattle.bit_lists.specs.Lists.{bit_value}
 use Rattle.bit_lists.specs.Places.{pow_double}

@@ -1,9 +1,9 @@
-use Rattle.std.proofs.Common.{◌≡◌, ◌≢◌, ◌+◌, ◌<◌, ◌^◌, ◌++◌, ◌∷◌, [], ℕ, List, Bool, false, nat_eq, cond, map, take, length, get_or, replicate, sym, ◌∙◌, ap, arith}
+use Rattle.std.proofs.Common.{◌≡◌, ◌≢◌, ◌<◌, ◌^◌, ◌++◌, ◌∷◌, [], ℕ, false, nat_eq, cond, map, take, length, get_or, replicate, sym, ◌∙◌, ap, arith}
 use Rattle.std.proofs.Math.Seq.{take-length}
 use Rattle.std.proofs.lemmas.List.{map_more}
 use Rattle.std.proofs.lemmas.Bool.Decides.{nat_tests}
 use Rattle.ring_omega.specs.Ring.{zero_quad, one_quad}
-use Rattle.bit_lists.specs.Lists.{all_lists, place_of}
+use Rattle.bit_lists.specs.Lists.{all_lists}
 use Rattle.bit_lists.specs.Places.{listed, length-all_lists}
 use Rattle.circuit_model.specs.Product.{amp, basis_state}
 use Rattle.circuit_model.proofs.VectorLemmas.{basis_state-zeros}

@@ -1,8 +1,11 @@
-use Rattle.std.proofs.Common.{◌≡◌, ◌≤◌, List, ℕ, length, map, string_bytes, Option, Err, ap, ◌∙◌, sym, subst, rules}
-use Rattle.gate_set.specs.declared.gate.Gate.{Gate}
-use Rattle.sliq_engine.specs.PlainText.{ReadsAs}
+use Rattle.std.proofs.Common.{◌≤◌, List, ℕ, IsTrue, false, length, map, string_bytes, Err, ap, sym, subst, refl, rules}
+use Rattle.std.proofs.Math.Path.{ap₂}
+use Rattle.qasm_reader.specs.declared.reason.Refusal.{Refusal}
+use Rattle.qasm_reader.specs.Reading.{ReadsAs, circuit}
 use Rattle.outside.specs.Bytes.{Added, AddedSome}
-use Rattle.sliq_engine.proofs.Phases.{Took, TookCircuit, file_rose, runs_bad, runs_fault, runs_memory, runs_long, runs_unbuilt, runs_done, runs_write_fault, runs_out_of_memory}
+use Rattle.sliq_engine.proofs.Phases.{Took, TookCircuit, file_rose, runs_fault, runs_memory, runs_long, runs_refused, runs_unbuilt, runs_done, runs_write_fault, runs_out_of_memory, refused_so}
+use Rattle.sliq_engine.specs.declared.cause.Cause.TheVariants.{Refused}
+use Rattle.sliq_engine.specs.Ends.{IsBuilt, IsRefusedAs, RunsTo}
 use Rattle.sliq_engine.specs.Output.{sim_output}
 use Rattle.sliq_engine.proofs.top.carry_out.Goals as goal
 
@@ -21,52 +24,66 @@ pub returns-in-Err-OutOfMemory-clause-runs : goal.returns-in-Err-OutOfMemory-cla
 returns-in-Err-OutOfMemory-clause-runs g c =
     runs_memory (g.S.Shelf.text c.args.shelf.now) (map string_bytes c.args.words.now) c.in-Some.name.now (g.K.Sink.written c.args.out.now) c.in-Some.ensures
 
-pub returns-in-Err-OutOfMemory-read_plain-clause-runs : goal.returns-in-Err-OutOfMemory-read_plain-clause-runs
-returns-in-Err-OutOfMemory-read_plain-clause-runs g c =
+pub returns-in-Err-OutOfMemory-read-clause-runs : goal.returns-in-Err-OutOfMemory-read-clause-runs
+returns-in-Err-OutOfMemory-read-clause-runs g c =
     runs_memory (g.S.Shelf.text c.args.shelf.now) (map string_bytes c.args.words.now) c.in-Some.name.now (g.K.Sink.written c.args.out.now) c.in-Some.ensures
 
-pub returns-in-Err-NotPlain-clause-runs : goal.returns-in-Err-NotPlain-clause-runs
-returns-in-Err-NotPlain-clause-runs g c =
+pub returns-in-Err-Refused-clause-runs : goal.returns-in-Err-Refused-clause-runs
+returns-in-Err-Refused-clause-runs g c =
     let bytes = c.in-Ok.text.items in
     let short : length bytes ≤ 16777216 = search rules in
     let took : Took (g.S.Shelf.text c.args.shelf.now) (map string_bytes c.args.words.now) bytes = record { name = c.in-Some.name.now; sims = c.in-Some.ensures; is_text = c.in-Ok.ensures.text; short = short } in
-    let none : (n : ℕ) (gates : List Gate) → ReadsAs bytes n gates → ⊥ = λ n gates reads.
-    let P : List ℕ → Type 0 = λ t. ReadsAs t n gates in
-    c.in-Err-NotPlain.ensures.none (ap Err c.in-Err-NotPlain.field-0-is) n gates (subst P (sym c.deref.ensures.value) reads) in
-    runs_unbuilt (g.K.Sink.written c.args.out.now) took none
+    let r = c.in-Err-Refused.refusal in
+    let P : List ℕ → Type 0 = λ t. IsRefusedAs r t in
+    let refused : IsRefusedAs r bytes = subst P c.deref.ensures.value (refused_so c.in-Err-Refused.field-0 r c.deref.result.now c.in-Err-Refused.field-0-is c.in-Err-Refused.ensures.refused) in
+    let Q : Refusal → Type 0 = λ s. RunsTo (g.S.Shelf.text c.args.shelf.now) (map string_bytes c.args.words.now) (Refused 1 s) (g.K.Sink.written c.args.out.now) (g.K.Sink.written c.args.out.now) in
+    subst Q (sym c.in-Err-Refused.refusal-is) (runs_refused (g.K.Sink.written c.args.out.now) r took refused)
+
+pub returns-then-not-is_built-clause-runs : goal.returns-then-not-is_built-clause-runs
+returns-then-not-is_built-clause-runs g c =
+    let bytes = c.in-Ok.text.items in
+    let short : length bytes ≤ 16777216 = search rules in
+    let took : Took (g.S.Shelf.text c.args.shelf.now) (map string_bytes c.args.words.now) bytes = record { name = c.in-Some.name.now; sims = c.in-Some.ensures; is_text = c.in-Ok.ensures.text; short = short } in
+    let it = c.in-Ok-read.circuit in
+    let P : List ℕ → Type 0 = λ t. ReadsAs t 64 (circuit it) in
+    let read : TookCircuit (g.S.Shelf.text c.args.shelf.now) (map string_bytes c.args.words.now) it = record { bytes = bytes; took = took; reads = subst P c.deref.ensures.value c.in-Ok-read.ensures.circuit } in
+    let beyond : IsBuilt it → ⊥ = λ built. (let yes : IsTrue false = c.if-not-is_built.ensures.1 built in cc) in
+    runs_unbuilt (g.K.Sink.written c.args.out.now) read beyond
 
 pub returns-in-Ok-send_sim-clause-runs : goal.returns-in-Ok-send_sim-clause-runs
 returns-in-Ok-send_sim-clause-runs g c =
     let bytes = c.in-Ok.text.items in
     let short : length bytes ≤ 16777216 = search rules in
     let took : Took (g.S.Shelf.text c.args.shelf.now) (map string_bytes c.args.words.now) bytes = record { name = c.in-Some.name.now; sims = c.in-Some.ensures; is_text = c.in-Ok.ensures.text; short = short } in
-    let n = c.in-Ok-read_plain.plain.qubits in
-    let gates = c.in-Ok-read_plain.plain.gates.items in
-    let P : List ℕ → Type 0 = λ t. ReadsAs t n gates in
-    let circuit : TookCircuit (g.S.Shelf.text c.args.shelf.now) (map string_bytes c.args.words.now) n gates = record { bytes = bytes; took = took; reads = subst P c.deref.ensures.value c.in-Ok-read_plain.ensures.found } in
+    let it = c.in-Ok-read.circuit in
+    let P : List ℕ → Type 0 = λ t. ReadsAs t 64 (circuit it) in
+    let read : TookCircuit (g.S.Shelf.text c.args.shelf.now) (map string_bytes c.args.words.now) it = record { bytes = bytes; took = took; reads = subst P c.deref.ensures.value c.in-Ok-read.ensures.circuit } in
+    let built : IsBuilt it = c.if-not-is_built.ensures.0 refl in
     let Q : List ℕ → Type 0 = λ b. Added (g.K.Sink.written c.args.out.now) (g.K.Sink.written c.send_sim.new.out) b in
-    runs_done (g.K.Sink.written c.args.out.now) (g.K.Sink.written c.send_sim.new.out) circuit (subst Q (ap (sim_output n) c.deref-2.ensures.value) c.in-Ok-send_sim.ensures.ok)
+    let added = subst Q (ap₂ sim_output c.qubits.ensures.value c.gates.ensures.value) c.in-Ok-send_sim.ensures.ok in
+    runs_done (g.K.Sink.written c.args.out.now) (g.K.Sink.written c.send_sim.new.out) read built added
 
 pub returns-in-Err-Fault-send_sim-clause-runs : goal.returns-in-Err-Fault-send_sim-clause-runs
 returns-in-Err-Fault-send_sim-clause-runs g c =
     let bytes = c.in-Ok.text.items in
     let short : length bytes ≤ 16777216 = search rules in
     let took : Took (g.S.Shelf.text c.args.shelf.now) (map string_bytes c.args.words.now) bytes = record { name = c.in-Some.name.now; sims = c.in-Some.ensures; is_text = c.in-Ok.ensures.text; short = short } in
-    let n = c.in-Ok-read_plain.plain.qubits in
-    let gates = c.in-Ok-read_plain.plain.gates.items in
-    let P : List ℕ → Type 0 = λ t. ReadsAs t n gates in
-    let circuit : TookCircuit (g.S.Shelf.text c.args.shelf.now) (map string_bytes c.args.words.now) n gates = record { bytes = bytes; took = took; reads = subst P c.deref.ensures.value c.in-Ok-read_plain.ensures.found } in
+    let it = c.in-Ok-read.circuit in
+    let P : List ℕ → Type 0 = λ t. ReadsAs t 64 (circuit it) in
+    let read : TookCircuit (g.S.Shelf.text c.args.shelf.now) (map string_bytes c.args.words.now) it = record { bytes = bytes; took = took; reads = subst P c.deref.ensures.value c.in-Ok-read.ensures.circuit } in
+    let built : IsBuilt it = c.if-not-is_built.ensures.0 refl in
     let Q : List ℕ → Type 0 = λ b. AddedSome (g.K.Sink.written c.args.out.now) (g.K.Sink.written c.send_sim.new.out) b in
-    runs_write_fault (g.K.Sink.written c.args.out.now) (g.K.Sink.written c.send_sim.new.out) circuit (subst Q (ap (sim_output n) c.deref-2.ensures.value) c.in-Err-Fault-send_sim.ensures.err)
+    let added = subst Q (ap₂ sim_output c.qubits.ensures.value c.gates.ensures.value) c.in-Err-Fault-send_sim.ensures.err in
+    runs_write_fault (g.K.Sink.written c.args.out.now) (g.K.Sink.written c.send_sim.new.out) read built added
 
 pub returns-clause-runs : goal.returns-clause-runs
 returns-clause-runs g c =
     let bytes = c.in-Ok.text.items in
     let short : length bytes ≤ 16777216 = search rules in
     let took : Took (g.S.Shelf.text c.args.shelf.now) (map string_bytes c.args.words.now) bytes = record { name = c.in-Some.name.now; sims = c.in-Some.ensures; is_text = c.in-Ok.ensures.text; short = short } in
-    let n = c.in-Ok-read_plain.plain.qubits in
-    let gates = c.in-Ok-read_plain.plain.gates.items in
-    let P : List ℕ → Type 0 = λ t. ReadsAs t n gates in
-    let circuit : TookCircuit (g.S.Shelf.text c.args.shelf.now) (map string_bytes c.args.words.now) n gates = record { bytes = bytes; took = took; reads = subst P c.deref.ensures.value c.in-Ok-read_plain.ensures.found } in
+    let it = c.in-Ok-read.circuit in
+    let P : List ℕ → Type 0 = λ t. ReadsAs t 64 (circuit it) in
+    let read : TookCircuit (g.S.Shelf.text c.args.shelf.now) (map string_bytes c.args.words.now) it = record { bytes = bytes; took = took; reads = subst P c.deref.ensures.value c.in-Ok-read.ensures.circuit } in
     let Q : List ℕ → Type 0 = λ b. AddedSome (g.K.Sink.written c.args.out.now) (g.K.Sink.written c.send_sim.new.out) b in
-    runs_out_of_memory (g.K.Sink.written c.args.out.now) (g.K.Sink.written c.send_sim.new.out) circuit (subst Q (ap (sim_output n) c.deref-2.ensures.value) c.in-Err-OutOfMemory-send_sim.ensures.err)
+    let added = subst Q (ap₂ sim_output c.qubits.ensures.value c.gates.ensures.value) c.in-Err-OutOfMemory-send_sim.ensures.err in
+    runs_out_of_memory (g.K.Sink.written c.args.out.now) (g.K.Sink.written c.send_sim.new.out) read added
