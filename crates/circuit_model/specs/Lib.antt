@@ -1,2 +1,3 @@
 pub mod Product
 pub mod Vector
+pub mod Working

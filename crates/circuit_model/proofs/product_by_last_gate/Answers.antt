@@ -2,33 +2,19 @@ use Rattle.std.proofs.Common.{◌≡◌, ap, refl, List, [], ◌∷◌, Bool, tr
 use Rattle.std.proofs.lemmas.List.Sums.{fold-append}
 use Rattle.ring_omega.specs.Ring.{one_quad, zero_quad}
 use Rattle.circuit_model.specs.Product.{amp, applied, same_bits, basis_state}
+use Rattle.circuit_model.proofs.VectorLemmas.{same_bits-refl, same_bits-true}
 use Rattle.circuit_model.proofs.product_by_last_gate.Goals as goal
-
-same : (x : List Bool) → same_bits x x ≡ true
-same [] = refl
-same (true ∷ x) = same x
-same (false ∷ x) = same x
-
-other : (x y : List Bool) → same_bits x y ≡ true → x ≡ y
-other [] [] e = refl
-other [] (b ∷ y) e = cc
-other (true ∷ x) [] e = cc
-other (false ∷ x) [] e = cc
-other (true ∷ x) (true ∷ y) e = ap (λ z. true ∷ z) (other x y e)
-other (false ∷ x) (false ∷ y) e = ap (λ z. false ∷ z) (other x y e)
-other (true ∷ x) (false ∷ y) e = cc
-other (false ∷ x) (true ∷ y) e = cc
 
 pub returns-clause-at_input : goal.returns-clause-at_input
 unfolding amp
-returns-clause-at_input c = λ x. ap (λ b. cond b one_quad zero_quad) (same x)
+returns-clause-at_input c = λ x. ap (λ b. cond b one_quad zero_quad) (same_bits-refl x)
 
 pub returns-clause-elsewhere : goal.returns-clause-elsewhere
 unfolding amp
 returns-clause-elsewhere c = λ input x differs. chosen input x differs (same_bits x input) refl
   where
     chosen : (input x : List Bool) → (x ≡ input → ⊥) → (b : Bool) → same_bits x input ≡ b → cond b one_quad zero_quad ≡ zero_quad
-    chosen input x differs true e = absurd (differs (other x input e))
+    chosen input x differs true e = absurd (differs (same_bits-true x input e))
     chosen input x differs false e = refl
 
 pub returns-clause-last : goal.returns-clause-last

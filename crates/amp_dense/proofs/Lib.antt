@@ -1,0 +1,3 @@
+pub mod ExactLemmas
+pub mod HalvingLemmas
+pub mod StateLemmas
