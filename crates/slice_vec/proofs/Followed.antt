@@ -1,0 +1,111 @@
+-- Bits that are made one after another, each by a call of its own.
+use Rattle.std.proofs.Common.{◌≡◌, ℕ, ◌-◌, ◌<◌, ◌≤◌, Bool, cond, max, List, [], ◌∷◌, ◌++◌, length, inl, sym, ◌∙◌, ap, arith}
+use Rattle.node_store.specs.declared.node.StoreStop.{StoreStop}
+use Rattle.diagram_model.specs.Functions.{Function, IsPrefixOf, fix, put}
+use Rattle.diagram_model.specs.Stores.{Diagram, IsLive, IsSound, function_of}
+use Rattle.diagram_model.proofs.Growing.{function_on}
+use Rattle.diagram_ops.specs.Diagrams.{Shared, IsConsistent}
+use Rattle.diagram_ops.specs.Made.{Property, StopIs, IsPrefixOfSome}
+use Rattle.slice_vec.specs.Digits.{Digits, IsSteady, choice, chosen, fixed, slice_value}
+use Rattle.slice_vec.specs.Growing.{Grows, Denotes}
+use Rattle.slice_vec.specs.Places.{choice_at}
+use Rattle.slice_vec.specs.Slices.{digits_of, StandsIn, first_bits, IsChosen, IsFixed}
+use Rattle.slice_vec.proofs.Bits.{Shows, shows_none, shows_more, shows_digits, shows_stands, steady-digits, steady_later, value_on}
+use Rattle.slice_vec.proofs.DigitLemmas.{value-chosen, steady-chosen, value-fixed, steady-fixed}
+use Rattle.slice_vec.proofs.Growing.{grows_none, grows_call, stop_call, some_bit, denotes_as, denotes_on, denotes_itself}
+use Rattle.slice_vec.proofs.Places.{false_function}
+
+-- the first bits of s so far, of w bits
+pub record Follows (u : Shared) (w : ℕ) (s : Digits) (v : Shared) (ns : List ℕ) : Type 0 where
+  pub grows : Grows u (IsPrefixOfSome u.store.order (first_bits w s)) v
+  pub shows : Shows v.store ns s
+
+pub follows_none : (u : Shared) (w : ℕ) (s : Digits) → IsConsistent u → Follows u w s u []
+follows_none u w s sound = record { grows = grows_none u (IsPrefixOfSome u.store.order (first_bits w s)) sound; shows = shows_none u.store s }
+
+module _ (u : Shared) (k : ℕ) (s : Digits) (v : Shared) (ns : List ℕ) (h : Follows u k s v ns) (i : ℕ) (at : length ns ≡ i) (f : Function) (same : f ≡ s i) where
+  pub next_grows : (w : Shared) → i < k → Grows v (IsPrefixOf v.store.order f) w → Grows u (IsPrefixOfSome u.store.order (first_bits k s)) w
+  next_grows w less g =
+      grows_call u v w (IsPrefixOfSome u.store.order (first_bits k s)) f (s i) h.grows g same (λ p q. some_bit u.store.order k i s p less q)
+
+  pub next_stops : (w : Shared) → i < k → (why : StoreStop) → StopIs w.store (IsPrefixOf v.store.order f) why → StopIs w.store (IsPrefixOfSome u.store.order (first_bits k s)) why
+  next_stops w less why stop =
+      stop_call u v w (IsPrefixOfSome u.store.order (first_bits k s)) f (s i) h.grows same (λ p q. some_bit u.store.order k i s p less q) why stop
+
+  pub follows_more : (w : Shared) (zs : List ℕ) (n : ℕ) → i < k → Grows v (IsPrefixOf v.store.order f) w → Denotes w.store n f → zs ≡ ns ++ n ∷ [] → Follows u k s w zs
+  follows_more w zs n less g is made =
+      let out : Follows u k s w (ns ++ n ∷ []) = record {
+        grows = next_grows w less g;
+        shows = shows_more v w (IsPrefixOf v.store.order f) ns s n h.grows.sound g h.shows (denotes_as w.store n f (s (length ns)) (same ∙ ap s (sym at)) is);
+      } in
+      rw made out
+
+-- the choice at place i
+pub choice_is : (u v : Shared) (Is : Property) (n : ℕ) (xs ys : List ℕ) (i an bn : ℕ) → IsConsistent u → Grows u Is v → IsLive u.store n → Denotes v.store an (digits_of u.store xs i) → Denotes v.store bn (digits_of u.store ys i) → choice_at v.store n an bn ≡ chosen (function_of u.store n) (digits_of u.store xs) (digits_of u.store ys) i
+unfolding chosen
+choice_is u v Is n xs ys i an bn s g live a b =
+    let m = denotes_on u v Is n (function_of u.store n) s g (denotes_itself u.store n live) in
+    ap (λ (f : Function). choice f (function_of v.store an) (function_of v.store bn)) m.is
+    ∙ ap (λ (f : Function). choice (function_of u.store n) f (function_of v.store bn)) a.is
+    ∙ ap (λ (f : Function). choice (function_of u.store n) (digits_of u.store xs i) f) b.is
+
+pub chosen_done : (u v : Shared) (n : ℕ) (xs ys zs : List ℕ) → StandsIn u.store xs → StandsIn u.store ys → Follows u (max (length xs) (length ys)) (chosen (function_of u.store n) (digits_of u.store xs) (digits_of u.store ys)) v zs → length zs ≡ max (length xs) (length ys) → IsChosen u.store v.store n xs ys zs
+chosen_done u v n xs ys zs hx hy h len =
+    let f = function_of u.store n in
+    let a = digits_of u.store xs in let b = digits_of u.store ys in
+    let m = length zs - 1 in
+    let some : 0 < length zs = omega (arith, len, hx.some) in
+    let few : length zs ≤ 131 = omega (arith, len, hx.few, hy.few) in
+    let ha = steady-digits u.store xs hx.some in
+    let hb = steady-digits u.store ys hy.some in
+    let steady : IsSteady m (chosen f a b) = steady-chosen m f a b (steady_later (length xs - 1) m a ha (omega (arith, len))) (steady_later (length ys - 1) m b hb (omega (arith, len))) in
+    let digits : digits_of v.store zs ≡ chosen f a b = shows_digits v.store zs (chosen f a b) h.shows some steady in
+    record {
+      width = len;
+      stands = shows_stands v.store zs (chosen f a b) h.shows some few;
+      digits = digits;
+      values = λ x.
+          ap (λ (s : Digits). slice_value m s x) digits
+          ∙ value-chosen m f a b x
+          ∙ ap (λ z. cond (f x) z (slice_value m b x)) (value_on (length xs - 1) m a x ha (omega (arith, len)))
+          ∙ ap (λ z. cond (f x) (slice_value (length xs - 1) a x) z) (value_on (length ys - 1) m b x hb (omega (arith, len)));
+    }
+
+-- the cofactor at place i
+pub fixed_is : (u v : Shared) (t : ℕ) (b : Bool) (xs : List ℕ) (i an : ℕ) → Denotes v.store an (digits_of u.store xs i) → fix t b (function_of v.store an) ≡ fixed t b (digits_of u.store xs) i
+unfolding fixed
+fixed_is u v t b xs i an a = ap (fix t b) a.is
+
+-- FALSE stays FALSE
+pub fixed_none : (d : Diagram) (t : ℕ) (b : Bool) → IsSound d → Denotes d 0 (fix t b (function_of d 0))
+fixed_none d t b s =
+    let none = false_function d s in
+    record { live = inl (omega arith); is = none ∙ ap (fix t b) (sym none) }
+
+-- a cofactor that is known, where the same node is asked for
+pub fixed_again : (d : Diagram) (t : ℕ) (b : Bool) (a f m : ℕ) → a ≡ f → Denotes d m (fix t b (function_of d f)) → Denotes d m (fix t b (function_of d a))
+fixed_again d t b a f m e h = rw e h
+
+-- what was made is known in the store after it
+pub fixed_next : (v w : Shared) (Is : Property) (t : ℕ) (b : Bool) (a m : ℕ) → IsConsistent v → Grows v Is w → IsLive v.store a → Denotes w.store m (fix t b (function_of v.store a)) → Denotes w.store m (fix t b (function_of w.store a))
+fixed_next v w Is t b a m s g live h =
+    denotes_as w.store m (fix t b (function_of v.store a)) (fix t b (function_of w.store a)) (ap (fix t b) (sym (function_on v.store w.store a s.store g.sound.store g.extends live))) h
+
+pub fixed_done : (u v : Shared) (t : ℕ) (b : Bool) (xs zs : List ℕ) → StandsIn u.store xs → Follows u (length xs) (fixed t b (digits_of u.store xs)) v zs → length zs ≡ length xs → IsFixed u.store v.store t b xs zs
+fixed_done u v t b xs zs hx h len =
+    let a = digits_of u.store xs in
+    let m = length zs - 1 in
+    let some : 0 < length zs = omega (arith, len, hx.some) in
+    let few : length zs ≤ 131 = omega (arith, len, hx.few) in
+    let ha = steady-digits u.store xs hx.some in
+    let steady : IsSteady m (fixed t b a) = steady-fixed m t b a (steady_later (length xs - 1) m a ha (omega (arith, len))) in
+    let digits : digits_of v.store zs ≡ fixed t b a = shows_digits v.store zs (fixed t b a) h.shows some steady in
+    record {
+      width = len;
+      stands = shows_stands v.store zs (fixed t b a) h.shows some few;
+      digits = digits;
+      values = λ x.
+          ap (λ (s : Digits). slice_value m s x) digits
+          ∙ value-fixed m t b a x
+          ∙ value_on (length xs - 1) m a (put x t b) ha (omega (arith, len));
+    }

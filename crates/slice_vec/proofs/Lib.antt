@@ -1,0 +1,14 @@
+pub mod Bits
+pub mod DigitLemmas
+pub mod Flips
+pub mod Followed
+pub mod Growing
+pub mod Negations
+pub mod Numbers
+pub mod Parities
+pub mod Places
+pub mod Ranges
+pub mod Readings
+pub mod Sums
+pub mod Trims
+pub mod Zeros

@@ -1,0 +1,31 @@
+use Rattle.diagram_model.specs.Stores.{function_of}
+use Rattle.diagram_ops.specs.Diagrams.{connective_of}
+use Rattle.slice_vec.specs.Places.{odd_at}
+use Rattle.slice_vec.proofs.Places.{pair_odd, connected-odd, call_grows, call_node, call_stop}
+use Rattle.slice_vec.proofs.place.odd.Goals as goal
+
+pub returns-in-Some-clause-node : goal.returns-in-Some-clause-node
+returns-in-Some-clause-node g c =
+    pair_odd c.args.d.now.store c.args.a.0 c.args.b.0 c.args.c.0 c.in-Some.pair c.requires.a c.requires.b c.requires.c c.in-Some.ensures
+
+pub returns-clause-grows : goal.returns-clause-grows
+returns-clause-grows g c =
+    let v = c.args.d.now in
+    let w = c.apply3.new.self in
+    let a = c.args.a.0 in let b = c.args.b.0 in let k = c.args.c.0 in
+    let same = connected-odd (function_of v.store a) (function_of v.store b) (function_of v.store k) in
+    call_grows v w (connective_of 150 v.store a b k) (odd_at v.store a b k) same c.apply3.ensures.sound c.apply3.ensures.extends c.apply3.ensures.functions c.apply3.ensures.capacity c.apply3.ensures.made
+
+pub returns-clause-node : goal.returns-clause-node
+returns-clause-node g c =
+    let v = c.args.d.now in
+    let a = c.args.a.0 in let b = c.args.b.0 in let k = c.args.c.0 in
+    let same = connected-odd (function_of v.store a) (function_of v.store b) (function_of v.store k) in
+    call_node c.apply3.new.self.store (connective_of 150 v.store a b k) (odd_at v.store a b k) c.apply3.result same c.apply3.ensures.live c.apply3.ensures.denotes
+
+pub returns-clause-stop : goal.returns-clause-stop
+returns-clause-stop g c =
+    let v = c.args.d.now in
+    let a = c.args.a.0 in let b = c.args.b.0 in let k = c.args.c.0 in
+    let same = connected-odd (function_of v.store a) (function_of v.store b) (function_of v.store k) in
+    call_stop c.apply3.new.self.store v.store.order (connective_of 150 v.store a b k) (odd_at v.store a b k) c.apply3.result same c.apply3.ensures.stop
