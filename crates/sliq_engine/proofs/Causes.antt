@@ -1,27 +1,32 @@
 -- Words and texts decide a cause.
-use Rattle.std.proofs.Common.{◌≡◌, ◌⊎◌, ◌≤◌, ◌<◌, inl, inr, List, ℕ, [], ◌∷◌, length, Option, Some, None, IsSome, refl, arith}
+use Rattle.std.proofs.Common.{◌≡◌, ◌⊎◌, inl, inr, List, ℕ, [], ◌∷◌, length, Option, Some, None, IsSome, refl, arith}
 use Rattle.std.proofs.lemmas.Bool.{cases_lt}
 use Rattle.std.specs.List.{AllByRecursion}
 use Rattle.gate_set.specs.Circuits.{Circuit}
+use Rattle.circuit_model.proofs.FitLemmas.{all_fit_or_first_unfit}
 use Rattle.qasm_reader.specs.declared.reason.Refusal.{Refusal}
 use Rattle.qasm_reader.specs.Reading.{Reading, ReadsAs, circuit, refusal}
 use Rattle.qasm_reader.proofs.EveryReading.{every_reading}
 use Rattle.sliq_engine.specs.declared.cause.Cause.{Cause}
-use Rattle.sliq_engine.specs.declared.cause.Cause.TheVariants.{Done, BadWords, TooLong, Refused, Unbuilt}
+use Rattle.sliq_engine.specs.declared.cause.Cause.TheVariants.{Done, BadWords, TooLong, Refused, Unbuilt, Width}
+use Rattle.amp_dense.specs.Rules.{usual_rules}
 use Rattle.sliq_engine.specs.Words.{Command, command_of}
-use Rattle.sliq_engine.specs.Ends.{Ends, IsDecided, IsFirst, IsLong, IsBuilt, HasCircuit, IsRefusedAs, AreCircuits, Asked, Taken, Read}
+use Rattle.sliq_engine.specs.Sending.{zeros}
+use Rattle.sliq_engine.specs.Ends.{Ends, IsDecided, IsFirst, IsLong, IsBuilt, FitsUsual, IsUnfitAt, HasCircuit, IsRefusedAs, AreCircuits, Asked, Taken, Read, Built}
 use Rattle.sliq_engine.proofs.Firsts.{first_or_all}
 
 long_or_not : (text : List ℕ) → IsLong text ⊎ (¬ IsLong text)
 long_or_not text = elim (cases_lt 16777216 (length text)) [ inl h ↦ inl h | inr n ↦ inr (λ h. (let a = n in let b = h in omega arith)) ]
 
 built_or_not : (c : Circuit) → (¬ IsBuilt c) ⊎ IsBuilt c
-built_or_not c = by (cases_lt 8 c.qubits) (cases_lt 100 (length c.gates))
-  where
-    by : (8 < c.qubits) ⊎ (c.qubits ≤ 8) → (100 < length c.gates) ⊎ (length c.gates ≤ 100) → (¬ IsBuilt c) ⊎ IsBuilt c
-    by (inl h) x = inl (λ b. (let q = b.0 in omega arith))
-    by (inr h) (inl g) = inl (λ b. (let q = b.1 in omega arith))
-    by (inr h) (inr g) = inr (h, g)
+built_or_not c = elim (cases_lt 12 c.qubits) [ inl h ↦ inl (λ b. (let q = b in let p = h in omega arith)) | inr n ↦ inr n ]
+
+-- the working vector of the circuit doesn't fit, at whatever gate
+abbrev pub IsUnfit : Circuit → Type 0
+IsUnfit c = (step : ℕ) × IsUnfitAt step c
+
+unfit_or_fits : (c : Circuit) → IsUnfit c ⊎ FitsUsual c
+unfit_or_fits c = elim (all_fit_or_first_unfit usual_rules.width (zeros c.qubits) c.gates) [ inl fits ↦ inr fits | inr unfit ↦ inl unfit ]
 
 -- the text is refused, in whatever way
 abbrev pub IsRefused : List ℕ → Type 0
@@ -51,12 +56,19 @@ module _ (words texts : List (List ℕ)) where
   abbrev pub Decided : Type 0
   Decided = (cause : Cause) × IsDecided cause × Ends words texts cause
 
+  by_widths : (cs : List Circuit) → Built words texts cs → Decided
+  by_widths cs built = by (first_or_all IsUnfit FitsUsual unfit_or_fits cs)
+    where
+      by : ((i : ℕ) × IsFirst IsUnfit FitsUsual cs i) ⊎ AllByRecursion FitsUsual cs → Decided
+      by (inl s) = (Width s.1.5.0, tt, (cs, built, s.0, (s.1.0, s.1.1, s.1.2, s.1.3, s.1.4, s.1.5.1, s.1.6)))
+      by (inr all) = (Done, tt, (cs, (built, all)))
+
   by_sizes : (cs : List Circuit) → Read words texts cs → Decided
   by_sizes cs read = by (first_or_all (λ c. ¬ IsBuilt c) IsBuilt built_or_not cs)
     where
       by : ((i : ℕ) × IsFirst (λ c. ¬ IsBuilt c) IsBuilt cs i) ⊎ AllByRecursion IsBuilt cs → Decided
       by (inl s) = (Unbuilt s.0, tt, (cs, read, s.1))
-      by (inr all) = (Done, tt, (cs, (read, all)))
+      by (inr all) = by_widths cs (read, all)
 
   by_texts : Taken words texts → Decided
   by_texts taken = by (first_or_all IsRefused HasCircuit refused_or_read texts)

@@ -1,5 +1,6 @@
-mod Partial
 mod ListingLemmas
+mod GatesLemmas
+mod WalkLemmas
 mod Phases
 mod Firsts
 mod Readings

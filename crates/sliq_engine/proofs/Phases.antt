@@ -1,18 +1,22 @@
 -- How a run on one file ends.
-use Rattle.std.proofs.Common.{◌≡◌, ◌≤◌, ◌<◌, ℕ, List, [], ◌∷◌, length, Option, Some, None, IfSome, IsSome, inl, inr, sym, ap, refl, subst, arith, replicate, lit<, is_some, true}
+use Rattle.std.proofs.Common.{◌≡◌, ◌⊎◌, ◌≤◌, ◌<◌, ℕ, List, [], ◌∷◌, length, Option, Some, None, IfSome, IsSome, inl, inr, sym, ap, refl, subst, arith, replicate, lit<, is_some, true}
 use Rattle.std.proofs.lemmas.List.{length-replicate}
+use Rattle.gate_set.specs.declared.gate.Gate.{Gate}
 use Rattle.gate_set.specs.Circuits.{Circuit}
+use Rattle.amp_dense.specs.Rules.{Settings, usual_rules}
 use Rattle.qasm_reader.specs.declared.reason.Refusal.{Refusal}
 use Rattle.qasm_reader.specs.declared.reason.ReadStop.{ReadStop}
 use Rattle.qasm_reader.specs.declared.reason.ReadStop.TheVariants.{Refused as Stopped}
 use Rattle.qasm_reader.specs.Reading.{ReadsAs, IfRefused, circuit}
 use Rattle.outside.specs.Bytes.{Added, AddedSome}
 use Rattle.outside.specs.Outside.{Rose}
-use Rattle.sliq_engine.specs.declared.cause.Cause.TheVariants.{Done, BadWords, ReadFault, TooLong, Refused, Unbuilt, WriteFault, OutOfMemory}
+use Rattle.sliq_engine.specs.declared.cause.Cause.TheVariants.{Done, BadWords, ReadFault, TooLong, Refused, Unbuilt, Width, WriteFault, OutOfMemory}
+use Rattle.sliq_engine.specs.declared.sim.SimStop.{SimStop}
+use Rattle.sliq_engine.specs.Sending.{GatesFit, StopMeans}
 use Rattle.sliq_engine.specs.Words.{Command, command_of, files_of}
 use Rattle.sliq_engine.specs.Words.Command.{sim}
 use Rattle.sliq_engine.specs.Output.{IsOutput, sim_output}
-use Rattle.sliq_engine.specs.Ends.{Asked, Taken, Read, Built, IsLong, IsBuilt, IsRefusedAs, FileRose, AreTexts, RunsTo}
+use Rattle.sliq_engine.specs.Ends.{Asked, Taken, Read, Built, Fitting, IsLong, IsBuilt, FitsUsual, IsUnfitAt, IsRefusedAs, FileRose, AreTexts, RunsTo}
 
 asked : (words : List (List ℕ)) (name : List ℕ) → command_of words ≡ Some (sim name) → Asked words
 asked words name e = let P : Option Command → Type 0 = λ o. IsSome o in subst P (sym e) refl
@@ -83,6 +87,18 @@ runs_refused {told = told} {words = words} {bytes = bytes} out r took refused =
       writes = refl;
     }
 
+-- a simulation by the usual rules stopped so
+pub stopped_so : (rules : Settings) (n : ℕ) (gates : List Gate) (Refusable : Type 0) (old new : Option (List ℕ)) (stop as_told : SimStop) → rules ≡ usual_rules → stop ≡ as_told
+    → StopMeans rules.width n gates Refusable old new stop → StopMeans usual_rules.width n gates Refusable old new as_told
+stopped_so rules n gates Refusable old new stop as_told usual e h =
+    let P : Settings → Type 0 = λ r. StopMeans r.width n gates Refusable old new stop in
+    let Q : SimStop → Type 0 = λ s. StopMeans usual_rules.width n gates Refusable old new s in
+    subst Q e (subst P usual h)
+
+-- and the gates fit them
+pub fits_usual : (rules : Settings) (c : Circuit) → rules ≡ usual_rules → GatesFit rules.width c.qubits c.gates → FitsUsual c
+fits_usual rules c usual h = let P : Settings → Type 0 = λ r. GatesFit r.width c.qubits c.gates in subst P usual h
+
 -- and reads as a circuit
 pub record TookCircuit (told : List ℕ → Option (List ℕ)) (words : List (List ℕ)) (c : Circuit) : Type 0 where
   pub bytes : List ℕ
@@ -95,6 +111,9 @@ is_read t = (taken t.took, (t.reads, tt))
 is_built : {told : List ℕ → Option (List ℕ)} {words : List (List ℕ)} {c : Circuit} (t : TookCircuit told words c) → IsBuilt c → Built words (t.bytes ∷ []) (c ∷ [])
 is_built t built = (is_read t, (built, tt))
 
+is_fitting : {told : List ℕ → Option (List ℕ)} {words : List (List ℕ)} {c : Circuit} (t : TookCircuit told words c) → IsBuilt c → FitsUsual c → Fitting words (t.bytes ∷ []) (c ∷ [])
+is_fitting t built fits = (is_built t built, (fits, tt))
+
 is_output : {told : List ℕ → Option (List ℕ)} {words : List (List ℕ)} {c : Circuit} (t : TookCircuit told words c) → IsOutput words (t.bytes ∷ []) (sim_output c.qubits c.gates)
 is_output {c = c} t = (sim t.took.name, t.took.sims, (t.bytes, c, refl, t.reads, refl))
 
@@ -106,17 +125,26 @@ pub runs_unbuilt : {told : List ℕ → Option (List ℕ)} {words : List (List �
 runs_unbuilt {c = c} out t beyond =
     record { texts = t.bytes ∷ []; are_texts = are t; ends = (c ∷ [], is_read t, ([], c, [], refl, refl, beyond, tt)); writes = refl }
 
+pub runs_width : {told : List ℕ → Option (List ℕ)} {words : List (List ℕ)} {c : Circuit} (old new : Option (List ℕ)) (step : ℕ) → TookCircuit told words c → IsBuilt c
+    → IsUnfitAt step c × (new ≡ old) → RunsTo told words (Width step) old new
+runs_width {c = c} old new step t built stop =
+    record { texts = t.bytes ∷ []; are_texts = are t; ends = (c ∷ [], is_built t built, 1, ([], c, [], refl, refl, stop.0, tt)); writes = stop.1 }
+
 pub runs_done : {told : List ℕ → Option (List ℕ)} {words : List (List ℕ)} {c : Circuit} (old new : Option (List ℕ)) → TookCircuit told words c → IsBuilt c
-    → Added old new (sim_output c.qubits c.gates) → RunsTo told words Done old new
-runs_done {c = c} old new t built added =
-    record { texts = t.bytes ∷ []; are_texts = are t; ends = (c ∷ [], is_built t built); writes = (sim_output c.qubits c.gates, is_output t, added) }
+    → FitsUsual c → Added old new (sim_output c.qubits c.gates) → RunsTo told words Done old new
+runs_done {c = c} old new t built fits added =
+    record { texts = t.bytes ∷ []; are_texts = are t; ends = (c ∷ [], is_fitting t built fits); writes = (sim_output c.qubits c.gates, is_output t, added) }
 
 pub runs_write_fault : {told : List ℕ → Option (List ℕ)} {words : List (List ℕ)} {c : Circuit} (old new : Option (List ℕ)) → TookCircuit told words c → IsBuilt c
-    → AddedSome old new (sim_output c.qubits c.gates) → RunsTo told words WriteFault old new
-runs_write_fault {c = c} old new t built some =
-    record { texts = t.bytes ∷ []; are_texts = are t; ends = (c ∷ [], is_built t built); writes = (sim_output c.qubits c.gates, is_output t, some) }
+    → FitsUsual c × AddedSome old new (sim_output c.qubits c.gates) → RunsTo told words WriteFault old new
+runs_write_fault {c = c} old new t built stop =
+    record { texts = t.bytes ∷ []; are_texts = are t; ends = (c ∷ [], is_fitting t built stop.0); writes = (sim_output c.qubits c.gates, is_output t, stop.1) }
 
 pub runs_out_of_memory : {told : List ℕ → Option (List ℕ)} {words : List (List ℕ)} {c : Circuit} (old new : Option (List ℕ)) → TookCircuit told words c
-    → AddedSome old new (sim_output c.qubits c.gates) → RunsTo told words OutOfMemory old new
-runs_out_of_memory {c = c} old new t some =
-    record { texts = t.bytes ∷ []; are_texts = are t; ends = tt; writes = inr (sim_output c.qubits c.gates, is_output t, some) }
+    → (new ≡ old) ⊎ (FitsUsual c × AddedSome old new (sim_output c.qubits c.gates)) → RunsTo told words OutOfMemory old new
+runs_out_of_memory {words = words} {c = c} old new t stop = record { texts = t.bytes ∷ []; are_texts = are t; ends = tt; writes = written stop }
+  where
+    written : (new ≡ old) ⊎ (FitsUsual c × AddedSome old new (sim_output c.qubits c.gates))
+        → (new ≡ old) ⊎ ((bytes : List ℕ) × IsOutput words (t.bytes ∷ []) bytes × AddedSome old new bytes)
+    written (inl none) = inl none
+    written (inr some) = inr (sim_output c.qubits c.gates, is_output t, some.1)

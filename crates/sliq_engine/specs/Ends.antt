@@ -3,23 +3,34 @@ use Rattle.std.specs.Prelude.{◌≡◌, ◌⊎◌, ℕ, ◌+◌, ◌<◌, ◌�
 use Rattle.std.specs.List.{AllByRecursion}
 use Rattle.std.specs.Fmt.{decimal}
 use Rattle.gate_set.specs.Circuits.{Circuit}
+use Rattle.circuit_model.specs.Working.{IsFirstUnfit}
+use Rattle.amp_dense.specs.Rules.{usual_rules}
 use Rattle.outside.specs.Outside.{Rose}
 use Rattle.outside.specs.Bytes.{Added, AddedSome}
 use Rattle.qasm_reader.specs.declared.reason.Refusal.{Refusal}
 use Rattle.qasm_reader.specs.Reading.{ReadsAs, circuit, refusal}
 use Rattle.sliq_engine.specs.declared.cause.Cause.{Cause}
-use Rattle.sliq_engine.specs.declared.cause.Cause.TheVariants.{Done, BadWords, ReadFault, TooLong, Refused, Unbuilt, WriteFault, OutOfMemory}
+use Rattle.sliq_engine.specs.declared.cause.Cause.TheVariants.{Done, BadWords, ReadFault, TooLong, Refused, Unbuilt, Width, WriteFault, OutOfMemory}
 use Rattle.sliq_engine.specs.Words.{command_of, files_of}
 use Rattle.sliq_engine.specs.Output.{IsOutput}
 use Rattle.sliq_engine.specs.Refusals.{reason_text}
+use Rattle.sliq_engine.specs.Sending.{zeros, GatesFit}
 
 -- a text of more than 16 MiB
 abbrev pub IsLong : List ℕ → Type 0
 IsLong text = 16777216 < length text
 
--- what the engine is built for so far: at most 8 qubits and 100 gates
+-- what the engine is built for so far: at most 12 qubits
 abbrev pub IsBuilt : Circuit → Type 0
-IsBuilt c = (c.qubits ≤ 8) × (length c.gates ≤ 100)
+IsBuilt c = c.qubits ≤ 12
+
+-- at each gate of the circuit the working vector fits the usual width
+abbrev pub FitsUsual : Circuit → Type 0
+FitsUsual c = GatesFit usual_rules.width c.qubits c.gates
+
+-- the gate of this number, counted from 1, is the first at which it doesn't
+abbrev pub IsUnfitAt : ℕ → Circuit → Type 0
+IsUnfitAt step c = IsFirstUnfit usual_rules.width (zeros c.qubits) c.gates step
 
 -- the text reads as some circuit
 abbrev pub HasCircuit : List ℕ → Type 0
@@ -53,6 +64,10 @@ Read words texts circuits = Taken words texts × AreCircuits texts circuits
 abbrev pub Built : List (List ℕ) → List (List ℕ) → List Circuit → Type 0
 Built words texts circuits = Read words texts circuits × AllByRecursion IsBuilt circuits
 
+-- and at each gate of each of them the working vector fits
+abbrev pub Fitting : List (List ℕ) → List (List ℕ) → List Circuit → Type 0
+Fitting words texts circuits = Built words texts circuits × AllByRecursion FitsUsual circuits
+
 -- of these the one of this number, counted from 1, is so, and each before it is of the other kind
 abbrev pub IsFirst : {X : Type 0} → (X → Type 0) → (X → Type 0) → List X → ℕ → Type 0
 IsFirst {X} Is Other xs number =
@@ -65,8 +80,9 @@ Ends words texts ReadFault = Asked words
 Ends words texts (TooLong file) = Asked words × IsFirst IsLong (λ text. ¬ IsLong text) texts file
 Ends words texts (Refused file r) = Taken words texts × IsFirst (IsRefusedAs r) HasCircuit texts file
 Ends words texts (Unbuilt file) = (circuits : List Circuit) × Read words texts circuits × IsFirst (λ c. ¬ IsBuilt c) IsBuilt circuits file
-Ends words texts Done = (circuits : List Circuit) × Built words texts circuits
-Ends words texts WriteFault = (circuits : List Circuit) × Built words texts circuits
+Ends words texts (Width step) = (circuits : List Circuit) × Built words texts circuits × (number : ℕ) × IsFirst (IsUnfitAt step) FitsUsual circuits number
+Ends words texts Done = (circuits : List Circuit) × Fitting words texts circuits
+Ends words texts WriteFault = (circuits : List Circuit) × Fitting words texts circuits
 Ends words texts OutOfMemory = Unit {0}
 
 -- the causes that the words and the texts decide; the others come from a device or from want of memory
@@ -76,6 +92,7 @@ IsDecided ReadFault = ⊥
 IsDecided (TooLong _) = Unit {0}
 IsDecided (Refused _ _) = Unit {0}
 IsDecided (Unbuilt _) = Unit {0}
+IsDecided (Width _) = Unit {0}
 IsDecided Done = Unit {0}
 IsDecided WriteFault = ⊥
 IsDecided OutOfMemory = ⊥
@@ -118,6 +135,7 @@ status_of ReadFault = 3
 status_of (TooLong _) = 4
 status_of (Refused _ _) = 4
 status_of (Unbuilt _) = 4
+status_of (Width _) = 5
 status_of WriteFault = 6
 status_of OutOfMemory = 7
 
@@ -130,6 +148,7 @@ lines_of ReadFault = codes "sliq: read fault\n"
 lines_of (TooLong file) = codes "sliq: file " ++ decimal file ++ codes " too long\n"
 lines_of (Refused file r) = codes "sliq: file " ++ decimal file ++ codes " statement " ++ decimal r.statement ++ codes ": " ++ reason_text r.why ++ codes "\n"
 lines_of (Unbuilt file) = codes "sliq: file " ++ decimal file ++ codes " not built yet\n"
+lines_of (Width step) = codes "sliq: width limit at step " ++ decimal step ++ codes "\n"
 lines_of WriteFault = codes "sliq: write fault\n"
 lines_of OutOfMemory = codes "sliq: out of memory\n"
 

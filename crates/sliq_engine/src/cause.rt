@@ -17,8 +17,10 @@ pub enum Cause {
     TooLong { file: u8 },
     /// This file's text is refused.
     Refused { file: u8, refusal: Refusal },
-    /// This file's circuit has more than 8 qubits or more than 100 gates, which the engine is not built for yet.
+    /// This file's circuit has more than 12 qubits, which the engine is not built for yet.
     Unbuilt { file: u8 },
+    /// At this gate of the circuit, counted from 1, a coefficient was wider than 128 bits.
+    Width { step: u32 },
     /// The output could not be written whole.
     WriteFault,
     /// Memory was wanted and refused.
@@ -41,6 +43,7 @@ impl Cause {
             Cause::BadWords => 2,
             Cause::ReadFault => 3,
             Cause::TooLong { .. } | Cause::Refused { .. } | Cause::Unbuilt { .. } => 4,
+            Cause::Width { .. } => 5,
             Cause::WriteFault => 6,
             Cause::OutOfMemory => 7,
         }

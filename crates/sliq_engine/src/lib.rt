@@ -5,7 +5,7 @@ mod cause;
 mod laws;
 mod message;
 mod output;
-mod simulation;
+mod sim;
 mod top;
 mod words;
 

@@ -1,20 +1,16 @@
 //! The output of a command, sent line by line through a buffer.
-ghost use Rattle.std.specs.Prelude.{◌≡◌, ◌≤◌, ◌<◌, ◌+◌, ◌^◌, List, Bool, not, cond, length, All, OnOk, OnErr, IsErrOf};
+ghost use Rattle.std.specs.Prelude.{◌≡◌, ◌≤◌, IfOk, length, OnOk, OnErr, IsErrOf};
 ghost use Rattle.outside.specs.Outside.{Rose};
 ghost use Rattle.outside.specs.Bytes.{Added, AddedSome};
 ghost use Rattle.outside.specs.Buffering.{Sent, SentSome};
 ghost use Rattle.ring_omega.specs.Lowest.{lowest_form};
-ghost use Rattle.ring_omega.specs.Ring.{is_zero};
-ghost use Rattle.bit_lists.specs.Lists.{place_of};
-ghost use Rattle.gate_set.specs.Shape.{IsOn};
-ghost use Rattle.circuit_model.specs.Vector.{at};
+ghost use Rattle.circuit_model.specs.Working.{work};
 ghost use Rattle.amp_printer.specs.Texts.{state_line, count_line};
-ghost use Rattle.sliq_engine.specs.Output.{sim_output, vector_output, listing_of, states_of, line_at};
+ghost use Rattle.sliq_engine.specs.Output.{vector_output, listing_of, states_of};
 
-use crate::simulation::{amplitudes, exponent_of};
+use amp_dense::Amplitudes;
 use amp_printer::{Counted, count_line, state_line};
 use bit_lists::{Bits, OutOfMemory};
-use gate_set::Gate;
 use outside::{Buffered, Failed, Sink};
 use ring_omega::{Quad, lowest};
 use std::alloc::Global;
@@ -48,46 +44,53 @@ impl From<Failed> for SendStop {
     }
 }
 
-/// Writes what `sim` says of a circuit. Nothing is written before the last gate was applied.
-pub fn send_sim<K: Sink>(
+/// Writes a working vector: its number of qubits, each basis state whose entry isn't zero in their order, and the number of those.
+pub fn send_amplitudes<A: Amplitudes, K: Sink>(
     alloc: Global,
     out: &mut K,
     qubits: u8,
-    gates: &[Gate],
+    state: &A,
 ) -> Result<(), SendStop>
-    requires small { qubits ≤ 8 }
-    requires few { length gates.now ≤ 100 }
-    requires on { All (IsOn qubits) gates.now }
-    ensures ok { OnOk result (Added (K.written out.old) (K.written out.new) (sim_output qubits gates.now)) }
-    ensures err { OnErr result (AddedSome (K.written out.old) (K.written out.new) (sim_output qubits gates.now)) }
-    ensures fault { IsErrOf result SendStop.Fault → Rose (K.faults out.old) (K.faults out.new) }
-    ensures counts { K.faults out.old ≤ K.faults out.new }
-{
-    let state = amplitudes(alloc, qubits, gates)?;
-    send_vector(alloc, out, qubits, exponent_of(gates), &state)
-}
-
-// Writes a list of amplitudes over the k-th power of √2.
-fn send_vector<K: Sink>(
-    alloc: Global,
-    out: &mut K,
-    qubits: u8,
-    k: u32,
-    state: &[Quad],
-) -> Result<(), SendStop>
-    requires small { qubits ≤ 8 }
-    requires size { length state.now ≡ 2 ^ qubits }
-    ensures ok { OnOk result (Added (K.written out.old) (K.written out.new) (vector_output qubits (at state.now) k)) }
-    ensures err { OnErr result (AddedSome (K.written out.old) (K.written out.new) (vector_output qubits (at state.now) k)) }
+    requires few { qubits ≤ 64 }
+    requires size { length (A.input_of state.now) ≡ qubits }
+    ensures ok { OnOk result (Added (K.written out.old) (K.written out.new) (vector_output qubits (work (A.gates_of state.now) (A.input_of state.now)).entries (work (A.gates_of state.now) (A.input_of state.now)).roots)) }
+    ensures err { OnErr result (AddedSome (K.written out.old) (K.written out.new) (vector_output qubits (work (A.gates_of state.now) (A.input_of state.now)).entries (work (A.gates_of state.now) (A.input_of state.now)).roots)) }
     ensures fault { IsErrOf result SendStop.Fault → Rose (K.faults out.old) (K.faults out.new) }
     ensures counts { K.faults out.old ≤ K.faults out.new }
 {
     let mut waiting = Buffered::new(alloc)?;
     send_count(out, &mut waiting, Counted::Qubits, qubits as u128)?;
-    send_states(out, &mut waiting, qubits, k, state)?;
-    send_count(out, &mut waiting, Counted::States, count_of(qubits, state))?;
+    let states = send_nonzero(alloc, out, &mut waiting, qubits, state)?;
+    send_count(out, &mut waiting, Counted::States, states)?;
     waiting.flush(out)?;
     Ok(())
+}
+
+// The lines of the basis states whose entries are not zero, and how many they are.
+fn send_nonzero<A: Amplitudes, K: Sink>(
+    alloc: Global,
+    out: &mut K,
+    waiting: &mut Buffered,
+    qubits: u8,
+    state: &A,
+) -> Result<u128, SendStop>
+    requires few { qubits ≤ 64 }
+    requires size { length (A.input_of state.now) ≡ qubits }
+    ensures ok { OnOk result (Sent (K.written out.old) waiting.old (K.written out.new) waiting.new (listing_of qubits (work (A.gates_of state.now) (A.input_of state.now)).entries (work (A.gates_of state.now) (A.input_of state.now)).roots)) }
+    ensures count { IfOk result (λ m. m ≡ states_of qubits (work (A.gates_of state.now) (A.input_of state.now)).entries) }
+    ensures err { OnErr result (SentSome (K.written out.old) waiting.old (K.written out.new) (listing_of qubits (work (A.gates_of state.now) (A.input_of state.now)).entries (work (A.gates_of state.now) (A.input_of state.now)).roots)) }
+    ensures fault { IsErrOf result SendStop.Fault → Rose (K.faults out.old) (K.faults out.new) }
+    ensures counts { K.faults out.old ≤ K.faults out.new }
+{
+    let k = state.exponent();
+    let mut states = 0;
+    let mut next = state.next_nonzero(alloc, None)?;
+    'states: while let Some(x) = next {
+        send_state(out, waiting, &x, state.entry(&x), k)?;
+        states += 1;
+        next = state.next_nonzero(alloc, Some(&x))?;
+    }
+    Ok(states)
 }
 
 fn send_count<K: Sink>(
@@ -103,60 +106,6 @@ fn send_count<K: Sink>(
 {
     let line = count_line(word, n);
     waiting.put(out, line.as_bytes())
-}
-
-// The lines of the amplitudes that are not zero.
-fn send_states<K: Sink>(
-    out: &mut K,
-    waiting: &mut Buffered,
-    qubits: u8,
-    k: u32,
-    state: &[Quad],
-) -> Result<(), Failed>
-    requires small { qubits ≤ 8 }
-    requires size { length state.now ≡ 2 ^ qubits }
-    ensures ok { OnOk result (Sent (K.written out.old) waiting.old (K.written out.new) waiting.new (listing_of qubits (at state.now) k)) }
-    ensures err { OnErr result (SentSome (K.written out.old) waiting.old (K.written out.new) (listing_of qubits (at state.now) k)) }
-    ensures fault { OnErr result (Rose (K.faults out.old) (K.faults out.new)) }
-    ensures counts { K.faults out.old ≤ K.faults out.new }
-{
-    let mut x = Bits::zeros(qubits);
-    for place in 0..state.len() {
-        send_entry(out, waiting, &x, state[place], k)?;
-        x = following(x);
-    }
-    Ok(())
-}
-
-// The next list, or the last one again.
-fn following(x: Bits) -> Bits
-    ensures long { length result ≡ length x }
-    ensures next { place_of x + 1 < 2 ^ length x → place_of result ≡ place_of x + 1 }
-{
-    match x.next_lex() {
-        Some(next) => next,
-        None => x,
-    }
-}
-
-// The line of an amplitude that isn't zero.
-fn send_entry<K: Sink>(
-    out: &mut K,
-    waiting: &mut Buffered,
-    x: &Bits,
-    q: Quad,
-    k: u32,
-) -> Result<(), Failed>
-    requires { length x.now ≤ 64 }
-    ensures ok { OnOk result (Sent (K.written out.old) waiting.old (K.written out.new) waiting.new (line_at q k x.now)) }
-    ensures err { OnErr result (SentSome (K.written out.old) waiting.old (K.written out.new) (line_at q k x.now)) }
-    ensures fault { OnErr result (Rose (K.faults out.old) (K.faults out.new)) }
-    ensures counts { K.faults out.old ≤ K.faults out.new }
-{
-    if q.is_zero() {
-        return Ok(());
-    }
-    send_state(out, waiting, x, q, k)
 }
 
 fn send_state<K: Sink>(
@@ -175,25 +124,4 @@ fn send_state<K: Sink>(
     let (p, j) = lowest(q, k);
     let line = state_line(x, p, j);
     waiting.put(out, line.as_bytes())
-}
-
-// How many amplitudes are not zero.
-fn count_of(qubits: u8, state: &[Quad]) -> u128
-    requires small { qubits ≤ 8 }
-    requires size { length state.now ≡ 2 ^ qubits }
-    ensures { result ≡ states_of qubits (at state.now) }
-{
-    let _ = qubits;
-    let mut count = 0;
-    for q in state {
-        count += one_unless_zero(*q);
-    }
-    count
-}
-
-fn one_unless_zero(q: Quad) -> u128
-    ensures value { result ≡ cond (not (is_zero q)) 1 0 }
-    ensures small { result ≤ 1 }
-{
-    if q.is_zero() { 0 } else { 1 }
 }

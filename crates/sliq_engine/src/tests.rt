@@ -319,34 +319,60 @@ fn repeated(
     Ok(text)
 }
 
-// At most eight qubits and a hundred gates: 25 calls on a register of four make a hundred.
+// At most twelve qubits: 12 calls on a register of twelve and 6 on places of it make 150 gates.
 #[test]
 fn what_is_built(rt: HostRuntime) -> Result<(), OutOfMemory> {
-    let head = b"OPENQASM 2.0;\nqreg q[4];\nqreg r[4];\n".as_slice();
-    let unbuilt = Cause::Unbuilt { file: 1 };
-    let unbuilt_lines = b"sliq: file 1 not built yet\n".as_slice();
-    let most = b"qubits 8\n|11110000> (0,0,0,1)/sqrt2^0\nstates 1\n".as_slice();
-    let rows: [(&[u8], Cause, u8, &[u8], &[u8]); 5] = [
-        (b"", Cause::Done, 0, most, b""),
-        (b"x r[0];\n", unbuilt, 4, b"", unbuilt_lines),
-        (b"x r;\n", unbuilt, 4, b"", unbuilt_lines),
-        (b"qreg s[1];\n", unbuilt, 4, b"", unbuilt_lines),
-        (b"qreg s[56];\n", unbuilt, 4, b"", unbuilt_lines),
+    let head = b"OPENQASM 2.0;\nqreg q[12];\nx q;\n".as_slice();
+    let tail = b"s q; t q;\nx q[0]; h q[11]; t q[11]; x q[3]; s q[11]; h q[5];\n".as_slice();
+    let output =
+        b"qubits 12\n|100100000000> (0,0,0,1)/sqrt2^2\n|100100000001> (1,0,0,0)/sqrt2^2\n|100101000000> (0,0,0,1)/sqrt2^2\n|100101000001> (1,0,0,0)/sqrt2^2\nstates 4\n".as_slice();
+    let mut text = repeated(rt.alloc(), head, b"h q; z q; h q;\n", 3, tail)?;
+    let ran = run_on(rt.alloc(), &["sliq", "sim", "a"], &text, CALM)?;
+    assert_eq!(rt; ran.ended.cause, Cause::Done);
+    assert_eq!(rt; ran.ended.status, 0);
+    assert_eq!(rt; ran.out.written(), output);
+    text.extend_from_slice(b"qreg r[1];\n")?;
+    let texts: [&[u8]; 4] = [
+        &text,
+        b"OPENQASM 2.0;\nqreg q[13];\n",
+        b"OPENQASM 2.0;\nqreg q[64];\n",
+        b"OPENQASM 2.0;\nqreg q[12];\nqreg r[1];\nx r;\n",
     ];
-    for (tail, cause, status, output, lines) in rows {
-        let text = repeated(rt.alloc(), head, b"x q;\n", 25, tail)?;
-        let ran = run_on(rt.alloc(), &["sliq", "sim", "a"], &text, CALM)?;
-        assert_eq!(rt; ran.ended, Ended { status, cause }, "{tail:?}");
-        assert_eq!(rt; ran.out.written(), output, "{tail:?}");
-        assert_eq!(rt; ran.err.written(), lines, "{tail:?}");
+    let cause = Cause::Unbuilt { file: 1 };
+    for text in texts {
+        let ran = run_on(rt.alloc(), &["sliq", "sim", "a"], text, CALM)?;
+        assert_eq!(rt; ran.ended, Ended { status: 4, cause });
+        assert_eq!(rt; ran.out.written(), b"".as_slice());
+        assert_eq!(rt;
+            ran.err.written(),
+            b"sliq: file 1 not built yet\n".as_slice()
+        );
     }
-    let nine = run_on(
-        rt.alloc(),
-        &["sliq", "sim", "a"],
-        b"OPENQASM 2.0;\nqreg q[9];\n",
-        CALM,
-    )?;
-    assert_eq!(rt; nine.ended.cause, unbuilt);
+    Ok(())
+}
+
+// After 1008 gates `h t h t ..` every coefficient lies within 128 bits; the next `h` makes one that doesn't.
+#[test]
+fn a_width_limit(rt: HostRuntime) -> Result<(), OutOfMemory> {
+    let head = b"OPENQASM 2.0;\nqreg q[1];\n".as_slice();
+    let lines = b"sliq: width limit at step 1009\n".as_slice();
+    let cause = Cause::Width { step: 1009 };
+    let output =
+        b"qubits 1\n|0> (62769325448061842000323757368724928762,8037874305898955981455289057181990569,-88750929929826751707852030111544211767,-12199312685962567920334395279097395268)/sqrt2^253\n|1> (8037874305898955981455289057181990569,8037874305898955981455289057181990569,-34019478787663865688983561800001273574,34019478787663865688983561800001273574)/sqrt2^253\nstates 2\n".as_slice();
+    let fits = repeated(rt.alloc(), head, b"h q[0];t q[0];\n", 504, b"")?;
+    let ran = run_on(rt.alloc(), &["sliq", "sim", "a"], &fits, CALM)?;
+    assert_eq!(rt; ran.ended.cause, Cause::Done);
+    assert_eq!(rt; ran.out.written(), output);
+    for tail in [
+        b"h q[0];\n".as_slice(),
+        b"h q[0];\nx q[0];\nh q[0];\n".as_slice(),
+    ] {
+        let text = repeated(rt.alloc(), head, b"h q[0];t q[0];\n", 504, tail)?;
+        let ran = run_on(rt.alloc(), &["sliq", "sim", "a"], &text, CALM)?;
+        assert_eq!(rt; ran.ended, Ended { status: 5, cause });
+        assert_eq!(rt; ran.out.written(), b"".as_slice());
+        assert_eq!(rt; ran.err.written(), lines);
+    }
     Ok(())
 }
 
@@ -528,6 +554,13 @@ fn ends_and_laws(rt: HostRuntime) -> Result<(), OutOfMemory> {
         }
     );
     assert_eq!(rt; err.written(), b"sliq: out of memory\n".as_slice());
+    let mut wide = MemorySink::new(rt.alloc(), 100, 100, Vec::new(rt.alloc()))?;
+    let ended = end(Cause::Width { step: 1_000_000 }, &mut wide);
+    assert_eq!(rt; ended.status, 5);
+    assert_eq!(rt;
+        wide.written(),
+        b"sliq: width limit at step 1000000\n".as_slice()
+    );
     one_cause();
     some_cause();
     one_output();

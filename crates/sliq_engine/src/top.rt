@@ -6,8 +6,9 @@ ghost use Rattle.sliq_engine.specs.Ends.{RunsTo, FileRose, Tells, IsBuilt, statu
 
 use crate::cause::{Cause, Ended};
 use crate::message::lines_of;
-use crate::output::{SendStop, send_sim};
+use crate::sim::{SimStop, send_sim};
 use crate::words::file_of;
+use amp_dense::{DenseState, Rules};
 use gate_set::Circuit;
 use outside::{Shelf, Sink, TakeStop, read_all, write_all};
 use qasm_reader::{ReadStop, read};
@@ -16,10 +17,8 @@ use std::alloc::Global;
 /// The most qubits of a circuit.
 const QUBITS: u8 = 64;
 
-/// The most qubits and gates of a circuit that is simulated.
-const BUILT_QUBITS: u8 = 8;
-
-const BUILT_GATES: usize = 100;
+/// The most qubits of a circuit that is simulated.
+const BUILT_QUBITS: u8 = 12;
 
 /// Carries out the command of the words: reads its files from the shelf, writes its output on `out`, and says on `err` why it
 /// stopped.
@@ -103,10 +102,14 @@ fn carry_out<S: Shelf, K: Sink>(
     if !is_built(&circuit) {
         return Cause::Unbuilt { file: 1 };
     }
-    match send_sim(alloc, out, circuit.qubits(), circuit.gates()) {
+    match send_sim::<DenseState, K>(alloc, out, &circuit, &Rules::usual()) {
         Ok(()) => Cause::Done,
-        Err(SendStop::Fault) => Cause::WriteFault,
-        Err(SendStop::OutOfMemory) => Cause::OutOfMemory,
+        Err(SimStop::Width { step }) => Cause::Width { step },
+        Err(SimStop::Fault) => Cause::WriteFault,
+        Err(SimStop::OutOfMemory) => Cause::OutOfMemory,
+
+        // It can't come: a list of all entries is never refused for want of nodes.
+        Err(SimStop::Nodes { .. }) => Cause::OutOfMemory,
     }
 }
 
@@ -114,5 +117,5 @@ fn carry_out<S: Shelf, K: Sink>(
 fn is_built(circuit: &Circuit) -> bool
     ensures { IsTrue result ↔ IsBuilt circuit.now }
 {
-    circuit.qubits() <= BUILT_QUBITS && circuit.gates().len() <= BUILT_GATES
+    circuit.qubits() <= BUILT_QUBITS
 }
