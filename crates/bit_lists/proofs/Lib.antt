@@ -1,1 +1,4 @@
 pub mod OrderLemmas
+pub mod Partials
+pub mod Places
+pub mod Variables

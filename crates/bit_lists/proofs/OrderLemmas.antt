@@ -3,7 +3,7 @@ use Rattle.std.proofs.Common.{◌≡◌, ℕ, zero, suc, ◌+◌, ◌*◌, ◌^�
 use Rattle.std.proofs.lemmas.List.{length-replicate, map-append}
 use Rattle.std.proofs.Math.Pow.{pow_mono}
 use Rattle.bit_lists.specs.Lists.{all_lists, place_of, bit_value, bits_text, IsBefore, IsNext}
-use Rattle.bit_lists.specs.Places.{place_of-below, pow_double, get_or-all_lists}
+use Rattle.bit_lists.proofs.Places.{place_of-below, pow_double, get_or-all_lists}
 
 -- with equal lengths a list that stands before another has the lesser place
 pub before-place : (x y : List Bool) → length x ≡ length y → IsBefore x y → place_of x < place_of y

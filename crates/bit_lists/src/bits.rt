@@ -20,7 +20,7 @@ pub struct Bits {
 impl Model for Bits {
     ghost use Rattle.std.specs.Prelude.{◌≤◌, ◌<◌, ◌^◌, [], List, Bool, get_or, length};
     ghost use Rattle.bit_lists.specs.Lists.{all_lists, place_of};
-    ghost use Rattle.bit_lists.specs.Places.{bits_inverse};
+    ghost use Rattle.bit_lists.specs.KeptBits.{bits_inverse};
 
     ghost Value = { List Bool };
 
@@ -64,7 +64,8 @@ impl Bits {
     }
 
     pub fn len(&self) -> u8
-        ensures { result ≡ length self.now }
+        ensures value { result ≡ length self.now }
+        ensures few { result ≤ 128 }
     {
         self.count
     }
@@ -98,7 +99,7 @@ impl Bits {
         if self.place() == last_place(self.len()) {
             return None;
         }
-        Some(Bits::at(self.place() + 1, self.len()))
+        Some(Bits::at_place(self.place() + 1, self.len()))
     }
 
     // The list with one more bit at its end.
@@ -108,21 +109,21 @@ impl Bits {
     {
         let twice = self.place() * 2;
         if b {
-            return Bits::at(twice + 1, self.len() + 1);
+            return Bits::at_place(twice + 1, self.len() + 1);
         }
-        Bits::at(twice, self.len() + 1)
+        Bits::at_place(twice, self.len() + 1)
     }
 
-    // Its place among the lists of its length.
-    fn place(&self) -> u128
+    /// Its place among the lists of its length in lexicographic order, from 0 on.
+    pub fn place(&self) -> u128
         ensures value { result ≡ place_of self.now }
         ensures below { result < 2 ^ length self.now }
     {
         self.place
     }
 
-    // The list at a place.
-    fn at(place: u128, count: u8) -> Bits
+    /// The list of `count` bits at a place.
+    pub fn at_place(place: u128, count: u8) -> Bits
         requires few { count ≤ 128 }
         requires below { place < 2 ^ count }
         ensures long { length result ≡ count }

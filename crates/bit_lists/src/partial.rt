@@ -16,7 +16,7 @@ pub struct Partial {
 
 impl Model for Partial {
     ghost use Rattle.std.specs.Prelude.{List, Option, Bool};
-    ghost use Rattle.bit_lists.specs.Partials.{partial_of, are_fixed, values_of, IsKept, kept_inverse};
+    ghost use Rattle.bit_lists.specs.KeptPartials.{partial_of, are_fixed, values_of, IsKept, kept_inverse};
 
     ghost Value = { List (Option Bool) };
 
@@ -42,7 +42,8 @@ impl Partial {
     }
 
     pub fn len(&self) -> u8
-        ensures { result ≡ length self.now }
+        ensures value { result ≡ length self.now }
+        ensures few { result ≤ 128 }
     {
         self.fixed.len()
     }

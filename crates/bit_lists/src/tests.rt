@@ -51,6 +51,9 @@ fn places_of_lists(rt: HostRuntime) {
     assert!(rt; !bit_of(2, 2, 1));
     assert_eq!(rt; with_bit(2, 2, 1, true), 3);
     assert_eq!(rt; with_bit(2, 2, 0, false), 0);
+    assert!(rt; Bits::at_place(2, 2).get(0));
+    assert!(rt; !Bits::at_place(2, 2).get(1));
+    assert_eq!(rt; Bits::at_place(2, 2).place(), 2);
     lists_by_place();
     order_by_place();
 }

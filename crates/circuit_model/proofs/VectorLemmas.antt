@@ -7,7 +7,7 @@ use Rattle.std.proofs.Math.Dec.{eqb-suc-zero}
 use Rattle.ring_omega.specs.declared.quad.Quad.{Quad}
 use Rattle.ring_omega.specs.Ring.{zero_quad, one_quad}
 use Rattle.bit_lists.specs.Lists.{all_lists, place_of, bits_at, with_bits}
-use Rattle.bit_lists.specs.Places.{listed, length-all_lists, get_or-all_lists, place_of-below}
+use Rattle.bit_lists.proofs.Places.{listed, length-all_lists, get_or-all_lists, place_of-below}
 use Rattle.bit_lists.proofs.OrderLemmas.{same_place}
 use Rattle.gate_set.specs.declared.gate.Gate.{Gate}
 use Rattle.gate_set.specs.Matrix.{entry_of, times_entry}

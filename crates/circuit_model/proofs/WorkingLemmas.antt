@@ -12,7 +12,7 @@ use Rattle.ring_omega.proofs.RingLaws.{times_power-sum_of, times_power-exchange,
 use Rattle.ring_omega.proofs.LowestLemmas.{times_power-root_cancel, times_power-times_power, times_power-add}
 use Rattle.ring_omega.proofs.LowestFormLemmas.{half-of_even, is_even-of_double}
 use Rattle.bit_lists.specs.Lists.{all_lists, place_of, bits_at, with_bits}
-use Rattle.bit_lists.specs.Places.{listed, get_or-all_lists, length-all_lists, place_of-below}
+use Rattle.bit_lists.proofs.Places.{listed, get_or-all_lists, length-all_lists, place_of-below}
 use Rattle.gate_set.specs.declared.gate.Gate.{Gate}
 use Rattle.gate_set.specs.declared.entry.Entry.{Entry}
 use Rattle.gate_set.specs.declared.entry.Entry.TheVariants.{Zero, Omega}

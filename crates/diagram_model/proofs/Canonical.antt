@@ -1,7 +1,7 @@
 -- Two live nodes that denote one function are one node.
 use Rattle.std.proofs.Common.{◌≡◌, ◌≢◌, ◌⊎◌, ℕ, ◌<◌, Bool, true, false, eqb, List, [], ◌∷◌, Option, Some, None, inl, inr, refl, sym, ◌∙◌, ap, arith, eq-eqb}
 use Rattle.std.proofs.lemmas.Bool.{cases_eq, eqb-false, cond-true, cond-false, ne_eqb, false≢true, cases_Bool}
-use Rattle.bit_lists.specs.KeptOrders.{has-tail, has-head, has-here}
+use Rattle.bit_lists.proofs.Variables.{has-tail, has-head, has-here}
 use Rattle.bit_lists.specs.Orders.{has, after, AreVars}
 use Rattle.diagram_model.specs.Functions.{put}
 use Rattle.diagram_model.specs.Nodes.{parts_of, child, follow_parts, follow, walk, value, IsLiveIn, IsProper, AreProper, AreUnique, SameFunction}

@@ -2,7 +2,7 @@
 use Rattle.std.proofs.Common.{◌≡◌, ℕ, ◌<◌, ◌≤◌, Bool, true, false, eqb, List, [], ◌∷◌, length, Option, None, inl, inr, refl, sym, ◌∙◌, ap, arith, eq-eqb}
 use Rattle.std.proofs.lemmas.Bool.{cases_eq, cond-true, cond-false, ne_eqb, false≢true}
 use mathlib.Core.Path.{fun_ext}
-use Rattle.bit_lists.specs.KeptOrders.{has-tail}
+use Rattle.bit_lists.proofs.Variables.{has-tail}
 use Rattle.bit_lists.specs.Orders.{has, after, AreVars}
 use Rattle.diagram_model.proofs.Canonical.{LacksVar, cases_var, some_same, follow-at, follow-other, after-head, after-tail, proper-tail, live-follow, walk-put}
 use Rattle.diagram_model.proofs.Prefixes.{Ignores}

@@ -2,7 +2,7 @@
 use Rattle.std.proofs.Common.{◌≡◌, ◌≢◌, ℕ, Bool, true, false, cond, eqb, List, [], ◌∷◌, inl, inr, refl, sym, ◌∙◌, ap, eq-eqb}
 use Rattle.std.proofs.lemmas.Bool.{cases_eq, cond-true, cond-false, ne_eqb, false≢true, cases_Bool}
 use mathlib.Core.Path.{fun_ext}
-use Rattle.bit_lists.specs.KeptOrders.{has-tail}
+use Rattle.bit_lists.proofs.Variables.{has-tail}
 use Rattle.bit_lists.specs.Orders.{has, after}
 use Rattle.diagram_model.specs.Functions.{Function, put, fix, IsPrefixOf}
 

@@ -4,7 +4,7 @@ use Rattle.std.specs.Prelude.{◌&&◌, ◌||◌}
 use Rattle.std.specs.Set.{distinct_count, unique_keys, is_member}
 use Rattle.std.proofs.lemmas.Bool.{cases_eq, cond-true, cond-false, ne_eqb, cases_Bool, and_parts}
 use mathlib.Core.Path.{fun_ext}
-use Rattle.bit_lists.specs.KeptOrders.{has-here, has-head}
+use Rattle.bit_lists.proofs.Variables.{has-here, has-head}
 use Rattle.bit_lists.specs.Lists.{all_lists}
 use Rattle.bit_lists.specs.Orders.{has, AreVars}
 use Rattle.diagram_model.specs.Functions.{bit, Function, fix}

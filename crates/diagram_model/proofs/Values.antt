@@ -1,7 +1,7 @@
 -- What a node denotes, by its children.
 use Rattle.std.proofs.Common.{◌≡◌, ◌≢◌, ℕ, ◌<◌, Bool, true, false, eqb, List, [], ◌∷◌, length, Option, Some, None, inl, inr, refl, sym, ◌∙◌, ap, arith}
 use Rattle.std.proofs.lemmas.Bool.{cases_eq, eqb-true, cond-true, cond-false, false≢true, cases_Bool}
-use Rattle.bit_lists.specs.KeptOrders.{has-tail, has-head}
+use Rattle.bit_lists.proofs.Variables.{has-tail, has-head}
 use Rattle.bit_lists.specs.Orders.{has, after, AreVars}
 use Rattle.diagram_model.specs.Nodes.{parts_of, child, follow, walk, value, IsLiveIn, AreProper, IsDiagram}
 use Rattle.diagram_model.specs.Stores.{Diagram, depth_of, depth, IsLive, IsSound}

@@ -3,7 +3,7 @@ use Rattle.std.proofs.Common.{◌≡◌, ◌≢◌, ℕ, ◌<◌, ◌≤◌, Boo
 use Rattle.std.proofs.lemmas.Bool.{cases_eq, cond-true, cond-false, ne_eqb}
 use mathlib.Core.Path.{fun_ext}
 use Rattle.bit_lists.specs.Orders.{has, after, place_in}
-use Rattle.bit_lists.specs.KeptOrders.{has-head}
+use Rattle.bit_lists.proofs.Variables.{has-head}
 use Rattle.diagram_model.specs.declared.parts.Parts.{Parts}
 use Rattle.diagram_model.specs.Functions.{Assignment, Function, put, fix, IsPrefixOf}
 use Rattle.diagram_model.specs.Nodes.{follow, IsLiveIn}

@@ -1,7 +1,7 @@
 -- Heights of nodes and their top variables.
 use Rattle.std.proofs.Common.{◌≡◌, ℕ, suc, ◌+◌, ◌<◌, ◌≤◌, max, true, false, eqb, length, inl, inr, refl, sym, ◌∙◌, ap, arith, List, [], ◌∷◌, eq-eqb}
 use Rattle.std.proofs.lemmas.Bool.{cases_eq, cond-true, cond-false, ne_eqb, false≢true}
-use Rattle.bit_lists.specs.KeptOrders.{has-tail}
+use Rattle.bit_lists.proofs.Variables.{has-tail}
 use Rattle.bit_lists.specs.Orders.{has, after, place_in}
 use Rattle.diagram_model.proofs.Canonical.{after-head, after-tail}
 use Rattle.diagram_model.specs.Stores.{Diagram, IsSound, IsLive, depth, depth_of}

@@ -3,7 +3,8 @@ use Rattle.std.proofs.Common.{◌≡◌, ◌≢◌, ◌⊎◌, ℕ, zero, suc, �
 use Rattle.std.specs.List.{list_any}
 use Rattle.std.proofs.lemmas.Bool.{cases_Bool, cases_eq, cond-true, cond-false, eqb-true, ne_eqb, and_parts}
 use Rattle.bit_lists.specs.Orders.{has}
-use Rattle.bit_lists.specs.Partials.{fits, value_of, fits_some, agrees_at, agrees_all}
+use Rattle.bit_lists.specs.Partials.{fits}
+use Rattle.bit_lists.proofs.Partials.{value_of, fits_some, agrees_at, agrees_all}
 use Rattle.diagram_model.specs.Functions.{Assignment, Function, bit, put}
 use Rattle.diagram_model.specs.Nodes.{value, follow, IsLiveIn}
 use Rattle.diagram_model.specs.Stores.{Diagram, IsSound, IsLive, function_of, from, HasVariable, depth}

@@ -1,6 +1,6 @@
 -- What `make` keeps where it adds a node.
 use Rattle.std.proofs.Common.{◌≡◌, ◌≢◌, ℕ, true, length, inr, refl, Ok, Err, Result, IfOk, OnOk, OnErr}
-use Rattle.bit_lists.specs.KeptOrders.{has-here}
+use Rattle.bit_lists.proofs.Variables.{has-here}
 use Rattle.bit_lists.specs.Orders.{has, after}
 use Rattle.diagram_model.specs.declared.parts.Parts.{Parts}
 use Rattle.diagram_model.specs.Nodes.{IsLiveIn, IsProper}

@@ -15,7 +15,7 @@ use Rattle.ring_omega.proofs.RingLemmas.{Decides-is_zero}
 use Rattle.ring_omega.proofs.LowestLemmas.{times_power-root_cancel, times_power-times_power, times_power-zero_quad}
 use Rattle.ring_omega.proofs.LowestFormLemmas.{lowest_form-is, lowest_form-from_lowest}
 use Rattle.bit_lists.specs.Lists.{all_lists, place_of}
-use Rattle.bit_lists.specs.Places.{listed, length-all_lists, get_or-all_lists, place_of-below}
+use Rattle.bit_lists.proofs.Places.{listed, length-all_lists, get_or-all_lists, place_of-below}
 use Rattle.bit_lists.proofs.OrderLemmas.{before-place, place-before}
 use Rattle.gate_set.specs.declared.gate.Gate.{Gate}
 use Rattle.circuit_model.specs.Product.{amp, exponent}

@@ -1,7 +1,7 @@
 use Rattle.std.proofs.Common.{◌<◌, ◌∙◌, ap, length, arith, Some, refl, []}
 use Rattle.std.proofs.lemmas.Option.{slice_get-get_or}
 use Rattle.bit_lists.specs.Lists.{all_lists, place_of}
-use Rattle.bit_lists.specs.Places.{length-all_lists, get_or-all_lists, place_of-below}
+use Rattle.bit_lists.proofs.Places.{length-all_lists, get_or-all_lists, place_of-below}
 use Rattle.bit_lists.proofs.laws.lists_by_place.Goals as goal
 
 pub returns-clause-count : goal.returns-clause-count

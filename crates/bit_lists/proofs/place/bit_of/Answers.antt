@@ -1,7 +1,7 @@
 use Rattle.std.proofs.Common.{◌≡◌, ◌+◌, ◌-◌, ◌/◌, ◌%◌, ◌^◌, suc, ap, ◌∙◌, sym, arith, false, true, Bool, nat_eq, length, refl, slice_index_or}
 use Rattle.bit_lists.specs.Lists.{bit_value}
 use Rattle.bit_lists.proofs.place.bit_of.Goals as goal
-use Rattle.bit_lists.specs.Places.{bit_of_place}
+use Rattle.bit_lists.proofs.Places.{bit_of_place}
 
 tested : (b : Bool) → nat_eq (bit_value b) 1 ≡ b
 tested false = refl

@@ -2,7 +2,7 @@ use Rattle.std.proofs.Common.{◌≡◌, ◌+◌, ◌-◌, ◌*◌, ◌^◌, ◌
 use Rattle.bit_lists.specs.Lists.{bit_value}
 use Rattle.std.proofs.Math.Pow.{pow_mono}
 use Rattle.bit_lists.proofs.place.with_bit.Goals as goal
-use Rattle.bit_lists.specs.Places.{changed, changed-in_range, changed-down, other_of_true, other_of_false}
+use Rattle.bit_lists.proofs.Places.{changed, changed-in_range, changed-down, other_of_true, other_of_false}
 
 pub returns-then-b-clause-in_range : goal.returns-then-b-clause-in_range
 returns-then-b-clause-in_range c =

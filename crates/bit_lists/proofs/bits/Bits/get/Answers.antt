@@ -1,6 +1,6 @@
 use Rattle.std.proofs.Common.{◌≡◌, ap, sym, ◌∙◌, length, [], arith}
 use Rattle.bit_lists.specs.Lists.{place_of}
-use Rattle.bit_lists.specs.Places.{listed}
+use Rattle.bit_lists.proofs.Places.{listed}
 use Rattle.bit_lists.proofs.bits.Bits.get.Goals as goal
 
 pub bit_of-requires-clause-within : goal.bit_of-requires-clause-within

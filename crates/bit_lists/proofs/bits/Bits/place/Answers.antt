@@ -1,6 +1,6 @@
 use Rattle.std.proofs.Common.{◌≡◌, ◌<◌, ◌^◌, ℕ, ap, sym, ◌∙◌, subst, length, []}
 use Rattle.bit_lists.specs.Lists.{place_of}
-use Rattle.bit_lists.specs.Places.{listed}
+use Rattle.bit_lists.proofs.Places.{listed}
 use Rattle.bit_lists.proofs.bits.Bits.place.Goals as goal
 
 pub returns-clause-value : goal.returns-clause-value

@@ -1,7 +1,7 @@
 use Rattle.std.proofs.Common.{◌≡◌, ap, sym, ◌∙◌, length, [], set, get_or, arith}
 use Rattle.std.proofs.lemmas.List.{length-set}
 use Rattle.bit_lists.specs.Lists.{place_of, all_lists}
-use Rattle.bit_lists.specs.Places.{listed, get_or-all_lists}
+use Rattle.bit_lists.proofs.Places.{listed, get_or-all_lists}
 use Rattle.bit_lists.proofs.bits.Bits.set.Goals as goal
 
 pub with_bit-self-inside-requires-clause-within : goal.with_bit-self-inside-requires-clause-within

@@ -12,9 +12,9 @@ overflow_add-twice c = let below = double_below _ _ c.requires c.place-twice.ens
 pub returns-then-b : goal.returns-then-b
 returns-then-b c =
     let bit = ap bit_value c.if-b.true in
-    last_at c.args.self c.at.result c.args.b (c.at.ensures.long ∙ ap (λ n. n + 1) c.len.ensures) (omega arith)
+    last_at c.args.self c.at_place.result c.args.b (c.at_place.ensures.long ∙ ap (λ n. n + 1) c.len.ensures.value) (omega arith)
 
 pub returns : goal.returns
 returns c =
     let bit = ap bit_value c.if-b.false in
-    last_at c.args.self c.at-2.result c.args.b (c.at-2.ensures.long ∙ ap (λ n. n + 1) c.len-2.ensures) (omega arith)
+    last_at c.args.self c.at_place-2.result c.args.b (c.at_place-2.ensures.long ∙ ap (λ n. n + 1) c.len-2.ensures.value) (omega arith)

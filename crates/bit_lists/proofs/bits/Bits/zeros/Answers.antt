@@ -1,7 +1,7 @@
 use Rattle.std.proofs.Common.{ap, sym, ◌∙◌, [], get_or, replicate, false}
 use Rattle.std.proofs.lemmas.List.{length-replicate}
 use Rattle.bit_lists.specs.Lists.{all_lists}
-use Rattle.bit_lists.specs.Places.{get_or-all_lists, place_of-zeros}
+use Rattle.bit_lists.proofs.Places.{get_or-all_lists, place_of-zeros}
 use Rattle.bit_lists.proofs.bits.Bits.zeros.Goals as goal
 
 pub returns : goal.returns

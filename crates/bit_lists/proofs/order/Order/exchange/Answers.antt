@@ -1,6 +1,6 @@
-use Rattle.std.proofs.Common.{◌≡◌, ℕ, ◌<◌, ◌+◌, length, get_or, refl, sym, ◌∙◌, ap, arith}
+use Rattle.std.proofs.Common.{◌+◌, length, get_or, refl, ◌∙◌, ap, arith}
 use Rattle.bit_lists.specs.Orders.{exchanged}
-use Rattle.bit_lists.specs.KeptOrders.{exchange_kept, length-kept_order}
+use Rattle.bit_lists.proofs.Variables.{exchange_kept, length-kept_order}
 use Rattle.bit_lists.proofs.order.Order.exchange.Goals as goal
 
 pub invariant_of-self : goal.invariant_of-self

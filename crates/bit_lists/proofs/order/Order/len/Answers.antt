@@ -1,6 +1,6 @@
-use Rattle.std.proofs.Common.{◌≡◌, subst}
+use Rattle.std.proofs.Common.{subst}
 use Rattle.bit_lists.specs.Orders.{IsOrder}
-use Rattle.bit_lists.specs.KeptOrders.{kept_is_order}
+use Rattle.bit_lists.proofs.Variables.{kept_is_order}
 use Rattle.bit_lists.proofs.order.Order.len.Goals as goal
 
 pub returns-clause-order : goal.returns-clause-order

@@ -2,7 +2,7 @@ use Rattle.std.proofs.Common.{◌≡◌, ℕ, zero, ◌<◌, ◌≤◌, length, 
 use Rattle.std.proofs.lemmas.Bool.{cases_eq, cases_lt}
 use Rattle.std.proofs.lemmas.List.{get_or-replicate, get_or-set_same, get_or-set_other, length-set, length-replicate}
 use Rattle.std.proofs.Math.ListN.{get_or-eq_default}
-use Rattle.bit_lists.specs.KeptOrders.{kept_natural, view-natural}
+use Rattle.bit_lists.proofs.Variables.{kept_natural, view-natural}
 use Rattle.bit_lists.proofs.order.Order.natural.Goals as goal
 
 past_end : (n k : ℕ) → n ≤ k → get_or {A = ℕ} (replicate {A = ℕ} n 0) k 0 ≡ zero

@@ -1,6 +1,6 @@
-use Rattle.std.proofs.Common.{◌≡◌, ℕ, ◌<◌, length, sym, ◌∙◌, ap, arith}
+use Rattle.std.proofs.Common.{length, sym, ◌∙◌, ap, arith}
 use Rattle.bit_lists.specs.Orders.{place_in}
-use Rattle.bit_lists.specs.KeptOrders.{kept_place, length-kept_order}
+use Rattle.bit_lists.proofs.Variables.{kept_place, length-kept_order}
 use Rattle.bit_lists.proofs.order.Order.place_of.Goals as goal
 
 pub returns-clause-place : goal.returns-clause-place

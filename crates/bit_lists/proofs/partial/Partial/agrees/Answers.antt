@@ -1,5 +1,6 @@
-use Rattle.std.proofs.Common.{◌≡◌, ℕ, ◌<◌, ◌≤◌, Bool, true, false, None, get_or, length, sym, ◌∙◌, arith, not}
-use Rattle.bit_lists.specs.Partials.{fits, agrees, agrees_all, agrees_not}
+use Rattle.std.proofs.Common.{◌≡◌, false, None, get_or, sym, ◌∙◌, arith}
+use Rattle.bit_lists.specs.Partials.{fits}
+use Rattle.bit_lists.proofs.Partials.{agrees_all, agrees_not}
 use Rattle.bit_lists.proofs.partial.Partial.agrees.Goals as goal
 
 pub returns-then-not-allows : goal.returns-then-not-allows

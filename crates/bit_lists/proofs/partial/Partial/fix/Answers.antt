@@ -1,6 +1,5 @@
-use Rattle.std.proofs.Common.{◌≡◌, ℕ, ◌<◌, Bool, true, false, cond, Option, None, Some, get_or, length, set, refl, ap, sym, ◌∙◌, arith}
-use Rattle.std.proofs.lemmas.List.{length-set}
-use Rattle.bit_lists.specs.Partials.{value_of, length-kept, kept-fix}
+use Rattle.std.proofs.Common.{◌≡◌, ◌<◌, Bool, false, Option, None, Some, length, set, refl, ap, ◌∙◌, arith}
+use Rattle.bit_lists.proofs.Partials.{value_of, length-kept, kept-fix}
 use Rattle.std.specs.Option.{unwrap_or}
 use Rattle.bit_lists.proofs.partial.Partial.fix.Goals as goal
 

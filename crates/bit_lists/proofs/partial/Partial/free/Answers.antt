@@ -1,5 +1,4 @@
-use Rattle.std.proofs.Common.{◌≡◌, ap}
-use Rattle.bit_lists.specs.Partials.{kept-free}
+use Rattle.bit_lists.proofs.Partials.{kept-free}
 use Rattle.bit_lists.proofs.partial.Partial.free.Goals as goal
 
 pub invariant_of-result : goal.invariant_of-result

@@ -1,6 +1,6 @@
-use Rattle.std.proofs.Common.{◌≡◌, ℕ, ◌<◌, Bool, true, false, cond, Option, None, Some, get_or, length, ap, sym, ◌∙◌, arith}
+use Rattle.std.proofs.Common.{◌≡◌, true, false, None, Some, get_or, length, ap, sym, ◌∙◌, arith}
 use Rattle.std.proofs.lemmas.Bool.{cond-true, cond-false}
-use Rattle.bit_lists.specs.Partials.{length-kept, get_or-partial_of}
+use Rattle.bit_lists.proofs.Partials.{length-kept, get_or-partial_of}
 use Rattle.bit_lists.proofs.partial.Partial.get.Goals as goal
 
 pub get-requires : goal.get-requires

@@ -1,7 +1,7 @@
 use Rattle.std.proofs.Common.{length, sym, refl, inr}
 use Rattle.bit_lists.specs.Orders.{after}
 use Rattle.diagram_model.specs.Stores.{IsSound, from}
-use Rattle.bit_lists.specs.KeptOrders.{has-here, has-head}
+use Rattle.bit_lists.proofs.Variables.{has-here, has-head}
 use Rattle.diagram_model.proofs.Values.{live-wider, value-node}
 use Rattle.node_store.specs.Slots.{parts}
 use Rattle.node_store.proofs.Makes.{tried_denotes, tried_live, tried_functions}
