@@ -1,7 +1,9 @@
 mod ListingLemmas
-mod GatesLemmas
 mod WalkLemmas
-mod Phases
-mod Firsts
-mod Readings
-pub mod Causes
+mod Endings
+mod StepLemmas
+mod SimLemmas
+mod CommandLemmas
+mod TakingLemmas
+mod RunLemmas
+mod OneRun

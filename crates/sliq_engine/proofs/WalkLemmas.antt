@@ -1,5 +1,5 @@
 -- The walk over the basis states whose entries are not zero, and outputs of vectors with the same values.
-use Rattle.std.proofs.Common.{◌≡◌, ◌≢◌, ℕ, zero, suc, ◌+◌, ◌-◌, ◌^◌, ◌<◌, ◌≤◌, refl, sym, ◌∙◌, ap, subst, Bool, true, false, not, cond, List, [], ◌++◌, length, get_or, take, arith, append-nil, replicate, Option, Some, None, IfSome, IfNone}
+use Rattle.std.proofs.Common.{◌≡◌, ◌≢◌, ℕ, zero, suc, ◌+◌, ◌-◌, ◌^◌, ◌<◌, ◌≤◌, refl, sym, ◌∙◌, ap, subst, Bool, true, false, not, cond, List, [], ◌++◌, length, get_or, take, arith, append-nil, Option, Some, None, IfSome, IfNone}
 use Rattle.std.proofs.Math.Path.{ap₂}
 use Rattle.std.proofs.Math.Seq.{take-length}
 use Rattle.std.specs.Option.{ForSome}
@@ -19,12 +19,17 @@ use Rattle.bit_lists.proofs.Places.{listed, length-all_lists, get_or-all_lists, 
 use Rattle.bit_lists.proofs.OrderLemmas.{before-place, place-before}
 use Rattle.gate_set.specs.declared.gate.Gate.{Gate}
 use Rattle.circuit_model.specs.Product.{amp, exponent}
-use Rattle.circuit_model.specs.Working.{work}
+use Rattle.circuit_model.specs.Working.{work, scaled}
 use Rattle.circuit_model.proofs.WorkingLemmas.{work-HasValues}
 use Rattle.amp_dense.specs.Nonzero.{IsAfter, IsNextNonzero, NoneAfter}
 use Rattle.amp_printer.specs.declared.counted.Counted.TheVariants.{Qubits, States}
 use Rattle.amp_printer.specs.Texts.{state_line, count_line}
-use Rattle.sliq_engine.specs.Output.{line_at, listing_of, states_of, vector_output, sim_output}
+use Rattle.amp_dense.specs.Rules.{Settings}
+use Rattle.amp_dense.specs.Standing.{Standing, vector, begun}
+use Rattle.amp_dense.proofs.Walking.{GoesBy}
+use Rattle.sliq_engine.specs.Listing.{line_at, listing_of, states_of, vector_output}
+use Rattle.sliq_engine.specs.Steps.{zeros}
+use Rattle.sliq_engine.specs.Sim.{sim_output}
 use Rattle.sliq_engine.proofs.ListingLemmas.{flat_map-same, sum_by-same, lines, lines_more, lines_front, line_at-zero, line_at-other}
 
 -- ---- pairs of one value
@@ -60,7 +65,7 @@ line_at-same q p k j x e =
 
 -- ---- outputs of vectors with the same values
 -- the output reads the values at lists of n bits only
-vector_output-values : (n : ℕ) (v u : List Bool → Quad) (k j : ℕ) → ((x : List Bool) → length x ≡ n → SameValue (v x) k (u x) j) → vector_output n v k ≡ vector_output n u j
+vector_output-values : (n : ℕ) (v u : List Bool → Quad) (k j : ℕ) → ((x : List Bool) → length x ≡ n → SameValue (v x) k (u x) j) → vector_output n (scaled v k) ≡ vector_output n (scaled u j)
 unfolding vector_output
 vector_output-values n v u k j h =
     let same = λ (i : ℕ) (lt : i < length (all_lists n)). h (get_or (all_lists n) i []) (listed n i [] (omega (arith, length-all_lists n))).0 in
@@ -69,12 +74,12 @@ vector_output-values n v u k j h =
     ap₂ (λ a b. count_line Qubits n ++ a ++ count_line States b) listing states
 
 -- the output of a circuit, from its working vector
-pub working_output : (m n : ℕ) (gates done : List Gate) (input : List Bool) → m ≡ n → done ≡ gates → input ≡ replicate n false
-    → vector_output m (work done input).entries (work done input).roots ≡ sim_output n gates
-working_output m n gates done input size all zeros =
-    let z = replicate n false in
-    ap (λ k. vector_output k (work done input).entries (work done input).roots) size
-    ∙ ap₂ (λ g x. vector_output n (work g x).entries (work g x).roots) all zeros
+pub working_output : (m n : ℕ) (rules : Settings) (gates : List Gate) (t : Standing) → m ≡ n → GoesBy (begun (zeros n) rules) gates t
+    → vector_output m (vector t) ≡ sim_output n gates
+working_output m n rules gates t size by =
+    let z = zeros n in
+    ap (λ (k : ℕ). vector_output k (vector t)) size
+    ∙ ap₂ (λ g x. vector_output n (work g x)) by.accepted by.input
     ∙ vector_output-values n (work gates z).entries (amp gates z) (work gates z).roots (exponent gates)
     (λ x long. work-HasValues gates z x (long ∙ sym (length-replicate n false)))
 

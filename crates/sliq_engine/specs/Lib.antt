@@ -1,5 +1,12 @@
-pub mod Words
+pub mod Asked
 pub mod Refusals
-pub mod Output
-pub mod Sending
-pub mod Ends
+pub mod Listing
+pub mod Steps
+pub mod Taking
+pub mod Sim
+pub mod Commands
+pub mod Comes
+pub mod Ending
+pub mod Status
+pub mod Laws
+pub mod Private

@@ -1,7 +1,9 @@
 //! How a run ends.
 ghost use Rattle.std.specs.Prelude.{◌≡◌};
-ghost use Rattle.sliq_engine.specs.Ends.{status_of};
+ghost use Rattle.sliq_engine.specs.Status.{status_of};
 
+use crate::output::SendStop;
+use amp_dense::Stop;
 use qasm_reader::Refusal;
 
 /// Why a run ended. Files are counted from 1.
@@ -46,6 +48,34 @@ impl Cause {
             Cause::Width { .. } => 5,
             Cause::WriteFault => 6,
             Cause::OutOfMemory => 7,
+        }
+    }
+}
+
+impl From<Stop> for Cause {
+    ghost use Rattle.std.specs.Prelude.{◌≡◌};
+    ghost use Rattle.sliq_engine.specs.Steps.{cause_of};
+
+    ghost from_gives = { λ stop cause. cause ≡ cause_of stop };
+
+    fn from(stop: Stop) -> Self {
+        match stop {
+            Stop::Width { gate } => Cause::Width { step: gate },
+            Stop::Nodes { .. } | Stop::OutOfMemory => Cause::OutOfMemory,
+        }
+    }
+}
+
+impl From<SendStop> for Cause {
+    ghost use Rattle.std.specs.Prelude.{◌≡◌};
+    ghost use Rattle.sliq_engine.specs.Private.{cause_of_sending};
+
+    ghost from_gives = { λ stop cause. cause ≡ cause_of_sending stop };
+
+    fn from(stop: SendStop) -> Self {
+        match stop {
+            SendStop::Fault => Cause::WriteFault,
+            SendStop::OutOfMemory => Cause::OutOfMemory,
         }
     }
 }

@@ -1,24 +1,31 @@
 //! Laws of the top call's definitions. Each call does nothing: its contract is the law.
 ghost use Rattle.std.specs.Prelude.{◌≡◌, ◌∷◌, [], List, ℕ, codes};
-ghost use Rattle.sliq_engine.specs.Output.{IsOutput, sim_output};
-ghost use Rattle.sliq_engine.specs.Ends.{Ends, IsDecided};
+ghost use Rattle.std.specs.Prelude.{Some, IsSome};
+ghost use Rattle.std.specs.List.{AllByRecursion};
+ghost use Rattle.outside.specs.Memory.{Shelved, text_of};
+ghost use Rattle.sliq_engine.specs.Comes.{Comes};
+ghost use Rattle.phases.specs.Phases.{Agree, HasOneEnd, HasSomeEnd};
+ghost use Rattle.sliq_engine.specs.Asked.{Asked, asked_of};
+ghost use Rattle.sliq_engine.specs.Commands.{CarriesOut};
+ghost use Rattle.sliq_engine.specs.Laws.{IsSure, memory};
+ghost use Rattle.sliq_engine.specs.Sim.{sim_output};
 
-use crate::cause::Cause;
 use gate_set::Kind;
 
-/// The words and the texts have one output.
-pub fn one_output()
-    ensures { (words texts : List (List ℕ)) (a b : List ℕ) → IsOutput words texts a → IsOutput words texts b → a ≡ b }
+/// Whatever is asked for, on whatever texts, comes to one output at most, or to one cause.
+pub fn one_end()
+    ensures { (asked : Asked) (texts : List (List ℕ)) → HasOneEnd IsSure (CarriesOut asked.task asked.rules texts) }
 {}
 
-/// The causes that words and texts decide exclude one another: where no device fails and memory is there, a run has at most one.
-pub fn one_cause()
-    ensures { (words texts : List (List ℕ)) (a b : Cause) → IsDecided a → IsDecided b → Ends words texts a → Ends words texts b → a ≡ b }
+/// And it comes to some output, or to some cause.
+pub fn some_end()
+    ensures { (asked : Asked) (texts : List (List ℕ)) → HasSomeEnd IsSure (CarriesOut asked.task asked.rules texts) }
 {}
 
-/// Words and texts decide a cause: where no device fails and memory is there, each run has one.
-pub fn some_cause()
-    ensures { (words texts : List (List ℕ)) → (cause : Cause) × IsDecided cause × Ends words texts cause }
+/// Where a shelf in memory has the files of the words, a run on it comes to one output at most, or to one cause, but for faults of the shelf.
+pub fn one_run()
+    ensures { (words : List (List ℕ)) (old new other : Shelved) → ((asked : Asked) → asked_of words ≡ Some asked → AllByRecursion (λ name. IsSome (text_of old name)) asked.files)
+        → Agree IsSure (Comes memory words old new) (Comes memory words old other) }
 {}
 
 /// What `sim` writes of small circuits: a Bell pair, no gate, H twice, and H T H.

@@ -5,12 +5,16 @@ mod cause;
 mod laws;
 mod message;
 mod output;
+mod perform;
+mod reading;
 mod sim;
+mod simulation;
+mod taking;
 mod top;
 mod words;
 
 pub use cause::{Cause, Ended};
-pub use laws::{one_cause, one_output, small_outputs, some_cause};
+pub use laws::{one_end, one_run, small_outputs, some_end};
 pub use top::{end, run};
 
 #[cfg(test)]

@@ -4,9 +4,9 @@ ghost use Rattle.outside.specs.Outside.{Rose};
 ghost use Rattle.outside.specs.Bytes.{Added, AddedSome};
 ghost use Rattle.outside.specs.Buffering.{Sent, SentSome};
 ghost use Rattle.ring_omega.specs.Lowest.{lowest_form};
-ghost use Rattle.circuit_model.specs.Working.{work};
+ghost use Rattle.amp_dense.specs.Standing.{vector};
 ghost use Rattle.amp_printer.specs.Texts.{state_line, count_line};
-ghost use Rattle.sliq_engine.specs.Output.{vector_output, listing_of, states_of};
+ghost use Rattle.sliq_engine.specs.Listing.{vector_output, listing_of, states_of};
 
 use amp_dense::Amplitudes;
 use amp_printer::{Counted, count_line, state_line};
@@ -52,9 +52,9 @@ pub fn send_amplitudes<A: Amplitudes, K: Sink>(
     state: &A,
 ) -> Result<(), SendStop>
     requires few { qubits ≤ 64 }
-    requires size { length (A.input_of state.now) ≡ qubits }
-    ensures ok { OnOk result (Added (K.written out.old) (K.written out.new) (vector_output qubits (work (A.gates_of state.now) (A.input_of state.now)).entries (work (A.gates_of state.now) (A.input_of state.now)).roots)) }
-    ensures err { OnErr result (AddedSome (K.written out.old) (K.written out.new) (vector_output qubits (work (A.gates_of state.now) (A.input_of state.now)).entries (work (A.gates_of state.now) (A.input_of state.now)).roots)) }
+    requires size { length (A.standing state.now).input ≡ qubits }
+    ensures ok { OnOk result (Added (K.written out.old) (K.written out.new) (vector_output qubits (vector (A.standing state.now)))) }
+    ensures err { OnErr result (AddedSome (K.written out.old) (K.written out.new) (vector_output qubits (vector (A.standing state.now)))) }
     ensures fault { IsErrOf result SendStop.Fault → Rose (K.faults out.old) (K.faults out.new) }
     ensures counts { K.faults out.old ≤ K.faults out.new }
 {
@@ -75,10 +75,10 @@ fn send_nonzero<A: Amplitudes, K: Sink>(
     state: &A,
 ) -> Result<u128, SendStop>
     requires few { qubits ≤ 64 }
-    requires size { length (A.input_of state.now) ≡ qubits }
-    ensures ok { OnOk result (Sent (K.written out.old) waiting.old (K.written out.new) waiting.new (listing_of qubits (work (A.gates_of state.now) (A.input_of state.now)).entries (work (A.gates_of state.now) (A.input_of state.now)).roots)) }
-    ensures count { IfOk result (λ m. m ≡ states_of qubits (work (A.gates_of state.now) (A.input_of state.now)).entries) }
-    ensures err { OnErr result (SentSome (K.written out.old) waiting.old (K.written out.new) (listing_of qubits (work (A.gates_of state.now) (A.input_of state.now)).entries (work (A.gates_of state.now) (A.input_of state.now)).roots)) }
+    requires size { length (A.standing state.now).input ≡ qubits }
+    ensures ok { OnOk result (Sent (K.written out.old) waiting.old (K.written out.new) waiting.new (listing_of qubits (vector (A.standing state.now)).entries (vector (A.standing state.now)).roots)) }
+    ensures count { IfOk result (λ m. m ≡ states_of qubits (vector (A.standing state.now)).entries) }
+    ensures err { OnErr result (SentSome (K.written out.old) waiting.old (K.written out.new) (listing_of qubits (vector (A.standing state.now)).entries (vector (A.standing state.now)).roots)) }
     ensures fault { IsErrOf result SendStop.Fault → Rose (K.faults out.old) (K.faults out.new) }
     ensures counts { K.faults out.old ≤ K.faults out.new }
 {

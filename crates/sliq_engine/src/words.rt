@@ -1,17 +1,23 @@
 //! The words of a run.
-ghost use Rattle.std.specs.Prelude.{◌≡◌, map, string_bytes, MatchOption, None, Some};
-ghost use Rattle.sliq_engine.specs.Words.{command_of, is_file_name};
-ghost use Rattle.sliq_engine.specs.Words.Command.{sim};
+ghost use Rattle.std.specs.Prelude.{◌≡◌, map, string_bytes, MatchOption, IfSome, None, Some, length};
+ghost use Rattle.sliq_engine.specs.Asked.{asked_of, simulation, is_file_name};
+
+/// A command with its values.
+#[derive(Clone, Copy)]
+pub enum Task {
+    Sim,
+}
 
 /// The file of the words `sim FILE`, or None where the words ask for no command.
-pub fn file_of(words: &[String]) -> Option<&str>
-    ensures { MatchOption result (command_of (map string_bytes words.now) ≡ None) (λ name. command_of (map string_bytes words.now) ≡ Some (sim name.now)) }
+pub fn files_of(words: &[String]) -> Option<&[String]>
+    ensures asked { MatchOption result (asked_of (map string_bytes words.now) ≡ None) (λ files. asked_of (map string_bytes words.now) ≡ Some (simulation (map string_bytes files.now))) }
+    ensures one { IfSome result (λ files. length files.now ≡ 1) }
 {
     let [_, command, name] = words else {
         return None;
     };
     if command.as_str() == "sim" && is_file_name(name.as_bytes()) {
-        Some(name.as_str())
+        Some(&words[2..])
     } else {
         None
     }

@@ -1,17 +1,17 @@
 use Rattle.std.proofs.Common.{◌++◌, ℕ, subst}
-use Rattle.circuit_model.specs.Working.{work}
+use Rattle.amp_dense.specs.Standing.{vector}
 use Rattle.outside.specs.Bytes.{Added, AddedSome}
 use Rattle.outside.proofs.BufferingLemmas.{sent_then, sent_fault, some_front, some_of, flushed, flushed_some}
 use Rattle.amp_printer.specs.declared.counted.Counted.TheVariants.{Qubits, States}
 use Rattle.amp_printer.specs.Texts.{count_line}
-use Rattle.sliq_engine.specs.Output.{vector_output, listing_of, states_of}
+use Rattle.sliq_engine.specs.Listing.{vector_output, listing_of, states_of}
 use Rattle.sliq_engine.proofs.ListingLemmas.{on_err}
 use Rattle.sliq_engine.proofs.output.send_amplitudes.Goals as goal
 
 pub returns-in_err-send_count-clause-err : goal.returns-in_err-send_count-clause-err
 unfolding vector_output
 returns-in_err-send_count-clause-err g c =
-    let w = work (g.A.Amplitudes.gates_of c.args.state.now) (g.A.Amplitudes.input_of c.args.state.now) in
+    let w = vector (g.A.Amplitudes.standing c.args.state.now) in
     let q = count_line Qubits c.args.qubits in
     let l = listing_of c.args.qubits w.entries w.roots in
     let t = count_line States (states_of c.args.qubits w.entries) in
@@ -20,7 +20,7 @@ returns-in_err-send_count-clause-err g c =
 pub returns-in_err-states-clause-err : goal.returns-in_err-states-clause-err
 unfolding vector_output
 returns-in_err-states-clause-err g c =
-    let w = work (g.A.Amplitudes.gates_of c.args.state.now) (g.A.Amplitudes.input_of c.args.state.now) in
+    let w = vector (g.A.Amplitudes.standing c.args.state.now) in
     let q = count_line Qubits c.args.qubits in
     let l = listing_of c.args.qubits w.entries w.roots in
     let t = count_line States (states_of c.args.qubits w.entries) in
@@ -29,7 +29,7 @@ returns-in_err-states-clause-err g c =
 pub returns-in_err-send_count-2-clause-err : goal.returns-in_err-send_count-2-clause-err
 unfolding vector_output
 returns-in_err-send_count-2-clause-err g c =
-    let w = work (g.A.Amplitudes.gates_of c.args.state.now) (g.A.Amplitudes.input_of c.args.state.now) in
+    let w = vector (g.A.Amplitudes.standing c.args.state.now) in
     let q = count_line Qubits c.args.qubits in
     let l = listing_of c.args.qubits w.entries w.roots in
     let P : ℕ → Type 0 = λ m. AddedSome (g.K.Sink.written c.args.out.now) (g.K.Sink.written c.send_count-2.new.out) (q ++ l ++ count_line States m) in
@@ -39,7 +39,7 @@ returns-in_err-send_count-2-clause-err g c =
 pub returns-in_err-flush-clause-err : goal.returns-in_err-flush-clause-err
 unfolding vector_output
 returns-in_err-flush-clause-err g c =
-    let w = work (g.A.Amplitudes.gates_of c.args.state.now) (g.A.Amplitudes.input_of c.args.state.now) in
+    let w = vector (g.A.Amplitudes.standing c.args.state.now) in
     let q = count_line Qubits c.args.qubits in
     let l = listing_of c.args.qubits w.entries w.roots in
     let P : ℕ → Type 0 = λ m. AddedSome (g.K.Sink.written c.args.out.now) (g.K.Sink.written c.flush.new.out) (q ++ l ++ count_line States m) in
@@ -50,7 +50,7 @@ returns-in_err-flush-clause-err g c =
 pub returns-clause-ok : goal.returns-clause-ok
 unfolding vector_output
 returns-clause-ok g c =
-    let w = work (g.A.Amplitudes.gates_of c.args.state.now) (g.A.Amplitudes.input_of c.args.state.now) in
+    let w = vector (g.A.Amplitudes.standing c.args.state.now) in
     let q = count_line Qubits c.args.qubits in
     let l = listing_of c.args.qubits w.entries w.roots in
     let P : ℕ → Type 0 = λ m. Added (g.K.Sink.written c.args.out.now) (g.K.Sink.written c.flush.new.out) (q ++ l ++ count_line States m) in

@@ -1,0 +1,15 @@
+-- Each command comes to one end, and to some end.
+use Rattle.std.proofs.Common.{ℕ, List, [], get_or}
+use Rattle.phases.specs.Phases.{HasOneEnd, HasSomeEnd}
+use Rattle.amp_dense.specs.Rules.{Settings}
+use Rattle.sliq_engine.specs.declared.words.Task.{Task}
+use Rattle.sliq_engine.specs.declared.words.Task.TheVariants as task
+use Rattle.sliq_engine.specs.Commands.{CarriesOut}
+use Rattle.sliq_engine.specs.Laws.{IsSure}
+use Rattle.sliq_engine.proofs.SimLemmas.{one_sims, some_sims}
+
+pub one_end : (it : Task) (rules : Settings) (texts : List (List ℕ)) → HasOneEnd IsSure (CarriesOut it rules texts)
+one_end task.Sim rules texts = one_sims rules (get_or texts 0 [])
+
+pub some_end : (it : Task) (rules : Settings) (texts : List (List ℕ)) → HasSomeEnd IsSure (CarriesOut it rules texts)
+some_end task.Sim rules texts = some_sims rules (get_or texts 0 [])

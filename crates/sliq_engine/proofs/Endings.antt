@@ -1,0 +1,42 @@
+-- How a run may end whose phases come one after the other.
+use Rattle.std.proofs.Common.{inl, inr, ℕ, List, Option, Ok, Err, refl}
+use Rattle.outside.specs.Bytes.{AddedSome}
+use Rattle.phases.specs.Phases.{Phase, ◌>>=◌, HandsOn}
+use Rattle.sliq_engine.specs.declared.output.SendStop.{SendStop}
+use Rattle.sliq_engine.specs.declared.output.SendStop.TheVariants as sends
+use Rattle.sliq_engine.specs.declared.cause.Cause.{Cause}
+use Rattle.sliq_engine.specs.declared.cause.Cause.TheVariants.{Done, BadWords, ReadFault, TooLong, Refused, Unbuilt, Width, WriteFault, OutOfMemory}
+use Rattle.sliq_engine.specs.Steps.{Output}
+use Rattle.sliq_engine.specs.Ending.{MayEnd, MayStopBy}
+use Rattle.sliq_engine.specs.Private.{cause_of_sending}
+
+module _ {X : Type 0} (first : Phase X Cause) (next : X → Phase Output Cause) where
+  -- the first phase stops
+  pub ends_first : (cause : Cause) (out : Option (List ℕ)) → MayStopBy first cause → MayEnd (first >>= next) cause out out
+  ends_first Done out h = absurd h
+  ends_first WriteFault out h = absurd h
+  ends_first OutOfMemory out h = inl refl
+  ends_first BadWords out h = ((Err BadWords, h, refl), refl)
+  ends_first ReadFault out h = ((Err ReadFault, h, refl), refl)
+  ends_first (TooLong file) out h = ((Err (TooLong file), h, refl), refl)
+  ends_first (Refused file r) out h = ((Err (Refused file r), h, refl), refl)
+  ends_first (Unbuilt file) out h = ((Err (Unbuilt file), h, refl), refl)
+  ends_first (Width step) out h = ((Err (Width step), h, refl), refl)
+
+  -- the first phase hands x on, and the run ends as the next one may
+  pub ends_after : (x : X) (cause : Cause) (old new : Option (List ℕ)) → first (Ok x) → MayEnd (next x) cause old new → MayEnd (first >>= next) cause old new
+  ends_after x Done old new f h = (h.0, (Ok x, f, h.1), h.2)
+  ends_after x WriteFault old new f h = (h.0, (Ok x, f, h.1), h.2)
+  ends_after x OutOfMemory old new f (inl e) = inl e
+  ends_after x OutOfMemory old new f (inr h) = inr (h.0, (Ok x, f, h.1), h.2)
+  ends_after x BadWords old new f h = ((Ok x, f, h.0), h.1)
+  ends_after x ReadFault old new f h = ((Ok x, f, h.0), h.1)
+  ends_after x (TooLong file) old new f h = ((Ok x, f, h.0), h.1)
+  ends_after x (Refused file r) old new f h = ((Ok x, f, h.0), h.1)
+  ends_after x (Unbuilt file) old new f h = ((Ok x, f, h.0), h.1)
+  ends_after x (Width step) old new f h = ((Ok x, f, h.0), h.1)
+
+-- the stop of a writing, as it is told
+pub ends_sending : (output : Output) (stop : SendStop) (old new : Option (List ℕ)) → AddedSome old new output.bytes → MayEnd (HandsOn output) (cause_of_sending stop) old new
+ends_sending output sends.Fault old new some = (output, refl, some)
+ends_sending output sends.OutOfMemory old new some = inr (output, refl, some)

@@ -1,0 +1,27 @@
+-- How a run ends, exit by exit.
+use Rattle.std.proofs.Common.{◌≡◌, ℕ, List, Option, Some, None, Ok, refl, subst}
+use Rattle.amp_dense.specs.Rules.{Settings, usual_rules}
+use Rattle.sliq_engine.specs.declared.cause.Cause.{Cause}
+use Rattle.sliq_engine.specs.declared.cause.Cause.TheVariants.{BadWords}
+use Rattle.sliq_engine.specs.declared.words.Task.TheVariants.{Sim}
+use Rattle.sliq_engine.specs.Asked.{asked_of, simulation}
+use Rattle.sliq_engine.specs.Taking.{Shelf, Takes}
+use Rattle.sliq_engine.specs.Commands.{CarriesOut}
+use Rattle.sliq_engine.specs.Comes.{Asks, Comes}
+use Rattle.sliq_engine.specs.Ending.{MayEnd, MayStopBy}
+use Rattle.sliq_engine.proofs.Endings.{ends_first, ends_after}
+
+pub run_bad : {S : Type 0} (shelf : Shelf S) (words : List (List ℕ)) (old : S) (out : Option (List ℕ)) → asked_of words ≡ None
+    → MayEnd (Comes shelf words old old) BadWords out out
+run_bad shelf words old out none = ends_first (Asks words old old) _ BadWords out (none, refl, refl)
+
+module _ {S : Type 0} (shelf : Shelf S) (words files : List (List ℕ)) (old new : S) (asks : asked_of words ≡ Some (simulation files)) where
+  pub run_untaken : (cause : Cause) (out : Option (List ℕ)) → MayStopBy (Takes shelf 1 files old new) cause → MayEnd (Comes shelf words old new) cause out out
+  run_untaken cause out h = ends_after (Asks words old new) _ (simulation files) cause out out asks (ends_first (Takes shelf 1 files old new) _ cause out h)
+
+  pub run_taken : (texts : List (List ℕ)) (rules : Settings) (cause : Cause) (before now : Option (List ℕ)) → Takes shelf 1 files old new (Ok texts) → rules ≡ usual_rules
+      → MayEnd (CarriesOut Sim rules texts) cause before now → MayEnd (Comes shelf words old new) cause before now
+  run_taken texts rules cause before now takes usual h =
+      ends_after (Asks words old new) _ (simulation files) cause before now asks
+      (ends_after (Takes shelf 1 files old new) _ texts cause before now takes
+      (subst (λ (r : Settings). MayEnd (CarriesOut Sim r texts) cause before now) usual h))

@@ -1,0 +1,58 @@
+-- The phases that commands are made of: each has one end, and its stops are those that are told.
+use Rattle.std.proofs.Common.{◌≡◌, ◌⊎◌, inl, inr, ℕ, ◌<◌, List, Bool, Ok, Err, refl, sym, ◌∙◌, ap, arith}
+use Rattle.std.proofs.Math.Path.{ap₂}
+use Rattle.std.proofs.lemmas.Bool.{cases_lt}
+use Rattle.gate_set.specs.declared.gate.Gate.{Gate}
+use Rattle.phases.specs.Phases.{HasOneEnd, HasSomeEnd, StopsWhere}
+use Rattle.phases.proofs.Ends.{one_told, some_told, some_stops_where}
+use Rattle.amp_dense.specs.Rules.{Settings}
+use Rattle.amp_dense.specs.declared.stop.Stop.{Stop}
+use Rattle.amp_dense.specs.declared.stop.Stop.TheVariants as stops
+use Rattle.amp_dense.specs.Standing.{Policy, begun, Walks, MayStop, dense_policy}
+use Rattle.amp_dense.proofs.Walking.{one_dense, some_dense}
+use Rattle.qasm_reader.specs.declared.reason.Why.{Why}
+use Rattle.qasm_reader.specs.declared.reason.Refusal.{Refusal}
+use Rattle.qasm_reader.specs.Reading.{Reading, ReadsAs, circuit, refusal}
+use Rattle.qasm_reader.proofs.OneReading.{one_reading}
+use Rattle.qasm_reader.proofs.EveryReading.{every_reading}
+use Rattle.sliq_engine.specs.declared.cause.Cause.TheVariants.{Refused, Unbuilt}
+use Rattle.sliq_engine.specs.Steps.{Reads, cause_of, Simulates}
+use Rattle.sliq_engine.specs.Ending.{MayStopBy}
+use Rattle.sliq_engine.specs.Laws.{IsSure}
+
+pub one_reads : (file : ℕ) (text : List ℕ) → HasOneEnd IsSure (Reads file text)
+one_reads file text (Ok c) (Ok d) p q s t = let e = one_reading text 64 (circuit c) (circuit d) p q in let same : c ≡ d = cc in ap Ok same
+one_reads file text (Ok c) (Err a) p q s t = absurd (let e = one_reading text 64 (circuit c) (refusal q.0.statement q.0.why) p q.1 in cc)
+one_reads file text (Err a) (Ok d) p q s t = absurd (let e = one_reading text 64 (circuit d) (refusal p.0.statement p.0.why) q p.1 in cc)
+one_reads file text (Err a) (Err b) p q s t =
+    let e = one_reading text 64 (refusal p.0.statement p.0.why) (refusal q.0.statement q.0.why) p.1 q.1 in
+    let number : p.0.statement ≡ q.0.statement = cc in
+    let why : p.0.why ≡ q.0.why = cc in
+    let same : p.0 ≡ q.0 = ap₂ (λ (n : ℕ) (w : Why). let t : Refusal = record { statement = n; why = w } in t) number why in
+    ap Err (p.2 ∙ ap (λ (r : Refusal). Refused file r) same ∙ sym q.2)
+
+pub some_reads : (file : ℕ) (text : List ℕ) → HasSomeEnd IsSure (Reads file text)
+some_reads file text = let r = every_reading 64 text in by r.0 r.1
+  where
+    by : (reading : Reading) → ReadsAs text 64 reading → HasSomeEnd IsSure (Reads file text)
+    by (circuit c) h = (Ok c, h, tt)
+    by (refusal n why) h = let r : Refusal = record { statement = n; why = why } in (Err (Refused file r), (r, h, refl), tt)
+
+pub one_simulates : (rules : Settings) (input : List Bool) (gates : List Gate) → HasOneEnd IsSure (Simulates dense_policy rules input gates)
+one_simulates rules input gates = one_told IsSure cause_of (Walks dense_policy (begun input rules) gates) (one_dense (λ stop. IsSure (cause_of stop)) (begun input rules) gates)
+
+pub some_simulates : (rules : Settings) (input : List Bool) (gates : List Gate) → HasSomeEnd IsSure (Simulates dense_policy rules input gates)
+some_simulates rules input gates =
+    some_told IsSure cause_of (Walks dense_policy (begun input rules) gates) (some_dense (λ stop. IsSure (cause_of stop)) (λ number. tt) (begun input rules) gates)
+
+-- the stop of a walk, as it is told
+pub simulation_stops : (policy : Policy) (rules : Settings) (input : List Bool) (gates : List Gate) (stop : Stop) → MayStop (Walks policy (begun input rules) gates) stop
+    → MayStopBy (Simulates policy rules input gates) (cause_of stop)
+simulation_stops policy rules input gates (stops.Width gate) h = (stops.Width gate, h, refl)
+simulation_stops policy rules input gates (stops.Nodes gate order held) h = tt
+simulation_stops policy rules input gates stops.OutOfMemory h = tt
+
+-- a circuit is built or it isn't
+pub some_built : (most n file : ℕ) → HasSomeEnd IsSure (StopsWhere (most < n) (Unbuilt file))
+some_built most n file =
+    some_stops_where IsSure (most < n) (Unbuilt file) tt (elim (cases_lt most n) [ inl h ↦ inl h | inr m ↦ inr (λ h. (let a = m in let b = h in omega arith)) ])

@@ -1,0 +1,6 @@
+use Rattle.sliq_engine.specs.Laws.{memory}
+use Rattle.sliq_engine.proofs.OneRun.{one_run}
+use Rattle.sliq_engine.proofs.laws.one_run.Goals as goal
+
+pub returns : goal.returns
+returns c = one_run memory

@@ -1,0 +1,12 @@
+-- What each command comes to on the texts of its files.
+use Rattle.std.specs.Prelude.{ℕ, List, [], get_or}
+use Rattle.amp_dense.specs.Rules.{Settings}
+use Rattle.phases.specs.Phases.{Phase}
+use Rattle.sliq_engine.specs.declared.cause.Cause.{Cause}
+use Rattle.sliq_engine.specs.declared.words.Task.{Task}
+use Rattle.sliq_engine.specs.declared.words.Task.TheVariants as task
+use Rattle.sliq_engine.specs.Steps.{Output}
+use Rattle.sliq_engine.specs.Sim.{Sims}
+
+abbrev pub CarriesOut : Task → Settings → List (List ℕ) → Phase Output Cause
+CarriesOut task.Sim rules texts = Sims rules (get_or texts 0 [])

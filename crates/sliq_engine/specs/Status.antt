@@ -1,0 +1,35 @@
+-- How an end is told: the exit status, and the lines on err.
+use Rattle.std.specs.Prelude.{◌⊎◌, ℕ, List, [], ◌++◌, codes, Option}
+use Rattle.std.specs.Fmt.{decimal}
+use Rattle.outside.specs.Outside.{Rose}
+use Rattle.outside.specs.Bytes.{Added, AddedSome}
+use Rattle.sliq_engine.specs.declared.cause.Cause.{Cause}
+use Rattle.sliq_engine.specs.declared.cause.Cause.TheVariants.{Done, BadWords, ReadFault, TooLong, Refused, Unbuilt, Width, WriteFault, OutOfMemory}
+use Rattle.sliq_engine.specs.Refusals.{reason_text}
+
+abbrev pub status_of : Cause → ℕ
+status_of Done = 0
+status_of BadWords = 2
+status_of ReadFault = 3
+status_of (TooLong _) = 4
+status_of (Refused _ _) = 4
+status_of (Unbuilt _) = 4
+status_of (Width _) = 5
+status_of WriteFault = 6
+status_of OutOfMemory = 7
+
+abbrev pub lines_of : Cause → List ℕ
+lines_of Done = []
+lines_of BadWords =
+    codes "sliq: bad words\nusage: sliq sim FILE [--input BITS] | eq FILE FILE | prob FILE | demo QUBITS GATES SEED, with --width --nodes --cache --reclaim --sift\n"
+lines_of ReadFault = codes "sliq: read fault\n"
+lines_of (TooLong file) = codes "sliq: file " ++ decimal file ++ codes " too long\n"
+lines_of (Refused file r) = codes "sliq: file " ++ decimal file ++ codes " statement " ++ decimal r.statement ++ codes ": " ++ reason_text r.why ++ codes "\n"
+lines_of (Unbuilt file) = codes "sliq: file " ++ decimal file ++ codes " not built yet\n"
+lines_of (Width step) = codes "sliq: width limit at step " ++ decimal step ++ codes "\n"
+lines_of WriteFault = codes "sliq: write fault\n"
+lines_of OutOfMemory = codes "sliq: out of memory\n"
+
+-- err has these lines more, or had a fault and has a front of them
+abbrev pub Tells : List ℕ → Option (List ℕ) → Option (List ℕ) → ℕ → ℕ → Type 0
+Tells lines old new before now = Added old new lines ⊎ (Rose before now × AddedSome old new lines)

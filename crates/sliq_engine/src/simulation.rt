@@ -1,0 +1,49 @@
+//! The gates of a circuit, applied to a basis state.
+ghost use Rattle.std.specs.Prelude.{◌≡◌, ◌<◌, ◌≤◌, length, IfOk, IfErr, OnOk, Ok};
+ghost use Rattle.phases.specs.Phases.{StopsWhere};
+ghost use Rattle.sliq_engine.specs.declared.cause.Cause.TheVariants.{Unbuilt};
+ghost use Rattle.sliq_engine.specs.Steps.{Simulates, zeros};
+ghost use Rattle.sliq_engine.specs.Ending.{MayStopBy};
+
+use crate::cause::Cause;
+use amp_dense::{Amplitudes, Rules};
+use bit_lists::Bits;
+use gate_set::Circuit;
+use std::alloc::Global;
+
+/// Stops where the circuit of the file of this number has more than this many qubits.
+pub fn check_built(circuit: &Circuit, most: u8, file: u8) -> Result<(), Cause>
+    ensures built { OnOk result (¬ (most < circuit.now.qubits)) }
+    ensures stop { IfErr result (MayStopBy (StopsWhere (most < circuit.now.qubits) (Unbuilt file))) }
+{
+    if circuit.qubits() > most {
+        return Err(Cause::Unbuilt { file });
+    }
+    Ok(())
+}
+
+/// The basis state of all zeros that the circuit begins with.
+pub fn zeros_of(circuit: &Circuit) -> Bits
+    ensures { result ≡ zeros circuit.now.qubits }
+{
+    Bits::zeros(circuit.qubits())
+}
+
+/// The working vector after the last gate.
+pub fn simulated<A: Amplitudes + Drop>(
+    alloc: Global,
+    input: &Bits,
+    circuit: &Circuit,
+    rules: &Rules,
+) -> Result<A, Cause>
+    requires size { length input.now ≡ circuit.now.qubits }
+    requires few { length input.now ≤ A.MOST }
+    ensures simulates { IfOk result (λ s. Simulates A.policy rules.now input.now circuit.now.gates (Ok (A.standing s))) }
+    ensures stop { IfErr result (MayStopBy (Simulates A.policy rules.now input.now circuit.now.gates)) }
+{
+    let mut state = A::start(alloc, input, rules)?;
+    'gates: for gate in circuit.gates() {
+        state.apply(alloc, gate)?;
+    }
+    Ok(state)
+}
