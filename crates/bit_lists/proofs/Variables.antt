@@ -6,7 +6,7 @@ use Rattle.std.proofs.lemmas.List.{ext_get_or, get_or-take, length-take-le, get_
 use Rattle.std.proofs.lemmas.List.FromFn.{length-range_with_len, get_or-range_with_len}
 use Rattle.bit_lists.specs.Orders.{has, AreVars, IsOrder, exchanged}
 use Rattle.bit_lists.specs.KeptOrders.{IsKeptOrder, kept_at}
-pub use Rattle.bit_lists.proofs.Variables.{length-kept_order, kept_place}
+pub use Rattle.bit_lists.specs.KeptOrders.{length-kept_order, kept_place}
 
 -- what is in a list and not its head is in its tail
 pub has-tail : (w v : ℕ) (ws : List ℕ) → has (w ∷ ws) v ≡ true → w ≢ v → has ws v ≡ true
