@@ -1,4 +1,4 @@
--- The gates of a list all fit a width, or there is one first gate that doesn't.
+-- Gates that all fit a width, and one more; and that a vector fits or doesn't.
 use Rattle.std.proofs.Common.{◌≡◌, ◌⊎◌, inl, inr, ℕ, zero, suc, ◌+◌, ◌-◌, ◌^◌, refl, sym, ◌∙◌, ap, subst, Bool, true, false, List, [], ◌∷◌, ◌++◌, length, arith, ℤ, pos, neg_ℤ}
 use Rattle.std.specs.Int.Signed.{clash_ℤ}
 use Rattle.std.proofs.lemmas.Int.{by_lt_z}
@@ -95,42 +95,3 @@ all_or_not (suc n) P decide =
 
 pub fits_or_not : (n w : ℕ) (v : List Bool → Quad) → FitsWidth n w v ⊎ (¬ FitsWidth n w v)
 fits_or_not n w v = all_or_not n (λ x. QuadFits w (v x)) (λ x. quad_fits_or_not w (v x))
-
--- ---- the first gate that doesn't fit
-abbrev FirstUnfit : ℕ → List Bool → List Gate → Type 0
-FirstUnfit w input gates = (number : ℕ) × IsFirstUnfit w input gates number
-
-on_from : (w : ℕ) (input : List Bool) (front rest : List Gate) → AllFit w input front → AllFit w input (front ++ rest) ⊎ FirstUnfit w input (front ++ rest)
-on_from w input front [] before = let P : List Gate → Type 0 = λ l. AllFit w input l in inl (subst P (sym (append-nil front)) before)
-on_from w input front (g ∷ rest) before =
-    by (fits_or_not (length input) w (raw g (work front input)).entries)
-    (λ fits. on_from w input (front ++ g ∷ []) rest (AllFit-more w input front g before fits))
-  where
-    by : FitsWidth (length input) w (raw g (work front input)).entries ⊎ (¬ FitsWidth (length input) w (raw g (work front input)).entries)
-        → (FitsWidth (length input) w (raw g (work front input)).entries
-        → AllFit w input ((front ++ g ∷ []) ++ rest) ⊎ FirstUnfit w input ((front ++ g ∷ []) ++ rest))
-        → AllFit w input (front ++ g ∷ rest) ⊎ FirstUnfit w input (front ++ g ∷ rest)
-    by (inl fits) more =
-        let P : List Gate → Type 0 = λ l. AllFit w input l ⊎ FirstUnfit w input l in
-        subst P (append_assoc front (g ∷ []) rest) (more fits)
-    by (inr unfit) more = inr (length front + 1, record { front = front; gate = g; rest = rest; split = refl; count = refl; before = before; unfit = unfit })
-
-pub all_fit_or_first_unfit : (w : ℕ) (input : List Bool) (gates : List Gate) → AllFit w input gates ⊎ ((number : ℕ) × IsFirstUnfit w input gates number)
-all_fit_or_first_unfit w input gates = on_from w input [] gates nothing
-  where
-    nothing : AllFit w input []
-    nothing [] rest g e = cc
-    nothing (h ∷ front) rest g e = cc
-
--- where all fit, none is the first that doesn't
-pub first_unfit_apart : (w : ℕ) (input : List Bool) (gates : List Gate) (number : ℕ) → IsFirstUnfit w input gates number → AllFit w input gates → ⊥
-first_unfit_apart w input gates number first all = first.unfit (all first.front first.rest first.gate first.split)
-
--- the first that doesn't fit has one number
-pub one_first_unfit : (w : ℕ) (input : List Bool) (gates : List Gate) (i j : ℕ) → IsFirstUnfit w input gates i → IsFirstUnfit w input gates j → i ≡ j
-one_first_unfit w input gates i j s t = by (split_order s.front t.front s.gate t.gate s.rest t.rest (sym s.split ∙ t.split))
-  where
-    by : SplitOrder s.front t.front s.gate t.gate → i ≡ j
-    by (inl same) = s.count ∙ ap (λ (l : List Gate). length l + 1) same.0 ∙ sym t.count
-    by (inr (inl more)) = absurd (s.unfit (t.before s.front more.0 s.gate more.1))
-    by (inr (inr more)) = absurd (t.unfit (s.before t.front more.0 t.gate more.1))

@@ -48,14 +48,14 @@ raw-HasValues : (n : ℕ) (g : Gate) (w : Scaled) (v : List Bool → Quad) (k : 
 unfolding rooted
 raw-HasValues n g w v k h x len =
     let d = half_power_of g.kind in
-    let j = w.roots in
+    let j = w.exponent in
     let middle : rooted k (applied g w.entries x) ≡ rooted j (applied g v x) =
     rooted-applied k g w.entries x
     ∙ applied-same g (λ y. rooted k (w.entries y)) (λ y. rooted j (v y)) x (λ y len'. h y (len' ∙ len))
     ∙ sym (rooted-applied j g v x) in
     times_power-add root_of_two d k (applied g w.entries x) ∙ ap (times_power root_of_two d) middle ∙ sym (times_power-add root_of_two d j (applied g v x))
 
--- ---- a factor of 2 is two roots
+-- ---- a factor of 2 is two roots of two
 doubled : Quad → Quad
 doubled q = quad (q.a +ℤ q.a) (q.b +ℤ q.b) (q.c +ℤ q.c) (q.d +ℤ q.d)
 
@@ -133,7 +133,7 @@ all_even-from n v h = from (all_lists n) (λ i lt. h _ (listed n i [] (omega (ar
 once_more : (n : ℕ) (v : List Bool → Quad) (k : ℕ) (w : Scaled) → all_even n v ≡ true → IsHalved n (λ x. half_quad (v x)) k w → IsHalved n v (suc (suc k)) w
 once_more n v k w t h = record {
   times = suc h.times;
-  roots_left = omega (arith, h.roots_left);
+  exponent_left = omega (arith, h.exponent_left);
   taken_out = λ x len.
       sym (doubled-half_quad (v x) (even_at n v t x len)) ∙ sym (product_of-two (half_quad (v x))) ∙ ap (λ q. product_of q two) (h.taken_out x len);
   ended = h.ended;
@@ -141,8 +141,8 @@ once_more n v k w t h = record {
 
 pub IsHalved-halved : (n : ℕ) (v : List Bool → Quad) (k : ℕ) → IsHalved n v k (halved n v k)
 unfolding halved
-IsHalved-halved n v zero = record { times = 0; roots_left = refl; taken_out = λ x len. refl; ended = λ le. absurd (omega arith) }
-IsHalved-halved n v (suc zero) = record { times = 0; roots_left = refl; taken_out = λ x len. refl; ended = λ le. absurd (omega arith) }
+IsHalved-halved n v zero = record { times = 0; exponent_left = refl; taken_out = λ x len. refl; ended = λ le. absurd (omega arith) }
+IsHalved-halved n v (suc zero) = record { times = 0; exponent_left = refl; taken_out = λ x len. refl; ended = λ le. absurd (omega arith) }
 IsHalved-halved n v (suc (suc k)) = by_test (all_even n v) refl (IsHalved-halved n (λ x. half_quad (v x)) k)
   where
     by_test : (b : Bool) → all_even n v ≡ b → IsHalved n (λ x. half_quad (v x)) k (halved n (λ x. half_quad (v x)) k)
@@ -150,7 +150,7 @@ IsHalved-halved n v (suc (suc k)) = by_test (all_even n v) refl (IsHalved-halved
     by_test true t h = once_more n v k (halved n (λ x. half_quad (v x)) k) t h
     by_test false t h = record {
       times = 0;
-      roots_left = omega arith;
+      exponent_left = omega arith;
       taken_out = λ x len. refl;
       ended = λ le all.
           let even : all_even n v ≡ true = all_even-from n v (λ x len. even_test (all x len).0 (v x) (all x len).1) in
@@ -164,7 +164,7 @@ run-HasValues : (n : ℕ) (gates : List Gate) (w : Scaled) (a : List Bool → Qu
 run-HasValues n [] w a e h = h
 run-HasValues n (g ∷ gates) w a e h =
     run-HasValues n gates (step n w g) (applied g a) (e + half_power_of g.kind)
-    (halved-HasValues n (raw g w).entries (raw g w).roots (applied g a) (e + half_power_of g.kind) (raw-HasValues n g w a e h))
+    (halved-HasValues n (raw g w).entries (raw g w).exponent (applied g a) (e + half_power_of g.kind) (raw-HasValues n g w a e h))
 
 pub work-HasValues : (gates : List Gate) (input : List Bool) → HasValues (length input) (work gates input) (amp gates input) (exponent gates)
 unfolding work amp
@@ -175,13 +175,13 @@ pub work-last : (gates : List Gate) (g : Gate) (input : List Bool) → work (gat
 unfolding work
 work-last gates g input = fold-append (step (length input)) (scaled (basis_state input) 0) gates (g ∷ [])
 
-halved_roots : (n : ℕ) (v : List Bool → Quad) (k : ℕ) → (halved n v k).roots ≤ k
+halved_exponent : (n : ℕ) (v : List Bool → Quad) (k : ℕ) → (halved n v k).exponent ≤ k
 unfolding halved
-halved_roots n v zero = omega arith
-halved_roots n v (suc zero) = omega arith
-halved_roots n v (suc (suc k)) = by_test (all_even n v) (halved_roots n (λ x. half_quad (v x)) k)
+halved_exponent n v zero = omega arith
+halved_exponent n v (suc zero) = omega arith
+halved_exponent n v (suc (suc k)) = by_test (all_even n v) (halved_exponent n (λ x. half_quad (v x)) k)
   where
-    by_test : (b : Bool) → (halved n (λ x. half_quad (v x)) k).roots ≤ k → (cond b (halved n (λ x. half_quad (v x)) k) (scaled v (suc (suc k)))).roots ≤ suc (suc k)
+    by_test : (b : Bool) → (halved n (λ x. half_quad (v x)) k).exponent ≤ k → (cond b (halved n (λ x. half_quad (v x)) k) (scaled v (suc (suc k)))).exponent ≤ suc (suc k)
     by_test true h = omega arith
     by_test false h = omega arith
 
@@ -206,5 +206,5 @@ half_power_of-small Ccx = omega arith
 half_power_of-small Cswap = omega arith
 
 -- a gate raises the exponent by at most 1
-pub step_roots : (n : ℕ) (w : Scaled) (g : Gate) → (step n w g).roots ≤ w.roots + 1
-step_roots n w g = omega (arith, halved_roots n (raw g w).entries (raw g w).roots, half_power_of-small g.kind)
+pub step_exponent : (n : ℕ) (w : Scaled) (g : Gate) → (step n w g).exponent ≤ w.exponent + 1
+step_exponent n w g = omega (arith, halved_exponent n (raw g w).entries (raw g w).exponent, half_power_of-small g.kind)

@@ -12,13 +12,13 @@ use Rattle.gate_set.specs.declared.gate.Gate.{Gate}
 use Rattle.gate_set.specs.Matrix.{half_power_of}
 use Rattle.circuit_model.specs.Product.{applied, basis_state}
 
--- a vector over a power of √2: the entry at x stands for `entries x` over the `roots`-th power of √2
+-- a vector over a power of √2: the entry at x stands for `entries x` over √2 to the power `exponent`
 pub record Scaled : Type 0 where
   pub entries : List Bool → Quad
-  pub roots : ℕ
+  pub exponent : ℕ
 
 abbrev pub scaled : (List Bool → Quad) → ℕ → Scaled
-scaled v k = record { entries = v; roots = k }
+scaled v k = record { entries = v; exponent = k }
 
 -- whether all four coefficients are even
 unfoldable pub is_even_quad : Quad → Bool
@@ -41,21 +41,21 @@ halved n v k = scaled v k
 abbrev pub two : Quad
 two = quad (pos 0) (pos 0) (pos 0) (pos 2)
 
--- w is the vector v over the k-th power of √2 with a factor of 2, which is two roots, taken out of all entries, until too few roots are left
--- or some coefficient is odd
+-- w is the vector v over the k-th power of √2 with factors of 2 taken out of all entries, each of which lowers the exponent by 2, until it is
+-- below 2 or some coefficient is odd
 pub record IsHalved (n : ℕ) (v : List Bool → Quad) (k : ℕ) (w : Scaled) : Type 0 where
   pub times : ℕ
-  pub roots_left : k ≡ w.roots + 2 * times
+  pub exponent_left : k ≡ w.exponent + 2 * times
   pub taken_out : (x : List Bool) → length x ≡ n → v x ≡ times_power two times (w.entries x)
-  pub ended : 2 ≤ w.roots → ¬ ((x : List Bool) → length x ≡ n → (q : Quad) × (product_of q two ≡ w.entries x))
+  pub ended : 2 ≤ w.exponent → ¬ ((x : List Bool) → length x ≡ n → (q : Quad) × (product_of q two ≡ w.entries x))
 
--- the gate's matrix times the vector, over as many more roots as the gate has factors 1/√2
+-- the gate's matrix times the vector, the exponent raised by the gate's factors 1/√2
 abbrev pub raw : Gate → Scaled → Scaled
-raw g w = scaled (applied g w.entries) (w.roots + half_power_of g.kind)
+raw g w = scaled (applied g w.entries) (w.exponent + half_power_of g.kind)
 
 -- the working vector on n qubits after one gate more
 abbrev pub step : ℕ → Scaled → Gate → Scaled
-step n w g = halved n (raw g w).entries (raw g w).roots
+step n w g = halved n (raw g w).entries (raw g w).exponent
 
 -- the working vector of the gates on the basis state `input`, the first gate first
 unfoldable pub work : List Gate → List Bool → Scaled
@@ -96,4 +96,4 @@ pub record IsFirstUnfit (w : ℕ) (input : List Bool) (gates : List Gate) (numbe
 
 -- the vector's entries on n qubits have the values of v over the k-th power of √2
 abbrev pub HasValues : ℕ → Scaled → (List Bool → Quad) → ℕ → Type 0
-HasValues n w v k = (x : List Bool) → length x ≡ n → SameValue (w.entries x) w.roots (v x) k
+HasValues n w v k = (x : List Bool) → length x ≡ n → SameValue (w.entries x) w.exponent (v x) k

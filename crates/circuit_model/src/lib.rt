@@ -26,13 +26,13 @@ pub fn work_by_last_gate()
     ensures last { (gates : List Gate) (g : Gate) (input : List Bool) → work (gates ++ g ∷ []) input ≡ step (length input) (work gates input) g }
 {}
 
-/// Halving takes a factor of 2 out of all entries, two roots each time, and ends where fewer than two roots are left or some coefficient
-/// is odd.
+/// Halving takes factors of 2 out of all entries, lowering the exponent by 2 for each, and ends where it is below 2 or some coefficient is
+/// odd.
 pub fn halving_ends()
     ensures { (n : ℕ) (v : List Bool → Quad) (k : ℕ) → IsHalved n v k (halved n v k) }
 {}
 
 /// At each basis state the entry of the working vector over its exponent has the value of the amplitude.
 pub fn working_value()
-    ensures { (gates : List Gate) (input x : List Bool) → length x ≡ length input → SameValue ((work gates input).entries x) (work gates input).roots (amp gates input x) (exponent gates) }
+    ensures { (gates : List Gate) (input x : List Bool) → length x ≡ length input → SameValue ((work gates input).entries x) (work gates input).exponent (amp gates input x) (exponent gates) }
 {}

@@ -58,6 +58,14 @@ impl Gate {
         self.on.as_slice()
     }
 
+    /// The number of rows of its matrix, and of columns.
+    pub fn side(&self) -> u8
+        ensures value { result ≡ 2 ^ arity_of self.now.kind }
+        ensures sound { IsPlaced self.now.kind self.now.on }
+    {
+        self.kind.row().side()
+    }
+
     /// How many factors 1/√2 its matrix has beside the entries.
     pub fn half_power(&self) -> u8
         ensures value { result ≡ half_power_of self.now.kind }

@@ -1,5 +1,5 @@
 //! The qubits of a gate.
-ghost use Rattle.std.specs.Prelude.{◌≡◌, ◌<◌, ◌≤◌, slice_index, length};
+ghost use Rattle.std.specs.Prelude.{◌≡◌, ◌≤◌, length};
 
 use smallvec::SmallVec;
 use std::alloc::Global;
@@ -45,12 +45,5 @@ impl Qubits {
         ensures few { result ≤ 3 }
     {
         self.items.len() as u8
-    }
-
-    pub fn at(&self, i: u8) -> u8
-        requires { i < length self.now }
-        ensures { result ≡ slice_index self.now i }
-    {
-        self.items.as_slice()[i as usize]
     }
 }

@@ -90,6 +90,14 @@ impl Row {
         self.controls + self.block.arity()
     }
 
+    // The number of rows of the matrix.
+    pub fn side(&self) -> u8
+        requires { self.now.controls ≤ 2 }
+        ensures { result ≡ 2 ^ (self.now.controls + block_arity self.now.block) }
+    {
+        side(self.arity())
+    }
+
     // The identity, but for the block at the end of both rows and columns.
     pub fn entry(&self, row: u8, col: u8) -> Entry
         requires few { self.now.controls ≤ 2 }
@@ -97,7 +105,7 @@ impl Row {
         requires col { col < 2 ^ (self.now.controls + block_arity self.now.block) }
         ensures { result ≡ entry_at (controlled_by self.now.controls (block_matrix self.now.block)) row col }
     {
-        let first = side(self.arity()) - side(self.block.arity());
+        let first = self.side() - side(self.block.arity());
         match (row.checked_sub(first), col.checked_sub(first)) {
             (Some(row), Some(col)) => self.block.entry(row, col),
             _ if row == col => Entry::Omega(0),

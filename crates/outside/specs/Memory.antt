@@ -3,7 +3,7 @@ use Rattle.std.specs.Prelude.{◌≡◌, ℕ, ◌==◌, Bool, ◌||◌, List, []
 use Rattle.std.specs.List.{list_any}
 use Rattle.std.specs.Str.{bytes_eq}
 use Rattle.std.specs.Option.{option_map, option_map_or, option_eq}
-use Rattle.outside.specs.Outside.{raised}
+use Rattle.outside.specs.Outside.{raised, Shelf}
 
 -- a name and its text
 pub record NamedText : Type 0 where
@@ -54,6 +54,10 @@ is_begun_in s name = option_eq (λ i j. i == j) (place_of name s.files) s.curren
 -- the count that a name has
 abbrev pub count_of : Shelved → List ℕ → ℕ
 count_of s name = option_map_or (slice_index s.faults) (place_of name s.files) s.missing
+
+-- a shelf in memory, as it is seen
+abbrev pub memory : Shelf Shelved
+memory = record { text = text_of; faults = count_of; ready = λ s. s.ready; taken = λ s. s.taken; ended = λ s. s.ended }
 
 -- the call after this many is one of those that fail
 abbrev pub is_next_bad : ℕ → List ℕ → Bool

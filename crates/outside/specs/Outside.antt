@@ -33,3 +33,12 @@ Gives old new given = old ≡ option_map (λ rest. given ++ rest) new
 -- an answer of no bytes for a buffer that has room
 abbrev pub GivesEnd : List ℕ → ℕ → Type 0
 GivesEnd buf count = (count ≡ 0) × (0 < length buf)
+
+-- what is seen of a shelf in each of its states: its texts, its counts of faults, whether the last begin was Ok, the bytes taken since
+-- then, and whether the end was given
+pub record Shelf (S : Type 0) : Type 0 where
+  pub text : S → List ℕ → Option (List ℕ)
+  pub faults : S → List ℕ → ℕ
+  pub ready : S → Bool
+  pub taken : S → ℕ
+  pub ended : S → Bool

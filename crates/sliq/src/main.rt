@@ -1,13 +1,18 @@
 //! The program: words, files and standard streams to the engine, and its status back.
 #![tactic(auto)]
 
-use outside::{FileShelf, StreamSink};
+ghost use Rattle.std.specs.Prelude.{◌≡◌, map, string_bytes};
+ghost use Rattle.std.specs.Process.{exit_status};
+ghost use Rattle.sliq_engine.specs.declared.cause.Cause.{Cause};
+ghost use Rattle.sliq_engine.specs.Comes.{Comes};
+ghost use Rattle.sliq_engine.specs.Ending.{MayEnd};
+ghost use Rattle.sliq_engine.specs.Status.{status_of};
+
+use outside::{FileShelf, Shelf, Sink, StreamSink};
 use sliq_engine::{Cause, end, run};
+use std::alloc::Global;
 use std::process::ExitCode;
 use std::{env, io};
-
-/// No memory for the words: nothing is printed.
-const OUT_OF_MEMORY: u8 = 7;
 
 fn main(rt: HostRuntime) -> ExitCode {
     let mut err = StreamSink::new(rt.stderr());
@@ -15,16 +20,36 @@ fn main(rt: HostRuntime) -> ExitCode {
         Ok(words) => words,
         Err(error) => {
             if error.kind() == io::ErrorKind::OutOfMemory {
-                return ExitCode::from(OUT_OF_MEMORY);
+                return out_of_memory();
             }
             return ExitCode::from(end(Cause::BadWords, &mut err).status);
         }
     };
     let Ok(words) = words.collect::<Vec<String>>(rt.alloc()) else {
-        return ExitCode::from(OUT_OF_MEMORY);
+        return out_of_memory();
     };
     let mut shelf = FileShelf::new(&rt);
     let mut out = StreamSink::new(rt.stdout());
-    let ended = run(rt.alloc(), &words, &mut shelf, &mut out, &mut err);
+    run_to_status(rt.alloc(), &words, &mut shelf, &mut out, &mut err)
+}
+
+// A run, and the status that the process ends with.
+fn run_to_status<S: Shelf, K: Sink, E: Sink>(
+    alloc: Global,
+    words: &[String],
+    shelf: &mut S,
+    out: &mut K,
+    err: &mut E,
+) -> ExitCode
+    ensures { (cause : Cause) × MayEnd (Comes (record { text = S.text; faults = S.faults; ready = S.ready; taken = S.taken; ended = S.ended }) (map string_bytes words.now) shelf.old shelf.new) cause (K.written out.old) (K.written out.new) × (exit_status result ≡ status_of cause) }
+{
+    let ended = run(alloc, words, shelf, out, err);
     ExitCode::from(ended.status)
+}
+
+// Without memory for the words nothing is printed.
+fn out_of_memory() -> ExitCode
+    ensures { exit_status result ≡ status_of Cause.OutOfMemory }
+{
+    ExitCode::from(Cause::OutOfMemory.status())
 }

@@ -36,6 +36,19 @@ module _ {X : Type 0} (first : Phase X Cause) (next : X → Phase Output Cause) 
   ends_after x (Unbuilt file) old new f h = ((Ok x, f, h.0), h.1)
   ends_after x (Width step) old new f h = ((Ok x, f, h.0), h.1)
 
+-- a phase may stop so where one may whose stops are its stops
+pub stops_also : {X Y : Type 0} (phase : Phase X Cause) (also : Phase Y Cause) → ((cause : Cause) → phase (Err cause) → also (Err cause)) → (cause : Cause)
+    → MayStopBy phase cause → MayStopBy also cause
+stops_also phase also each Done h = absurd h
+stops_also phase also each WriteFault h = absurd h
+stops_also phase also each OutOfMemory h = tt
+stops_also phase also each BadWords h = each BadWords h
+stops_also phase also each ReadFault h = each ReadFault h
+stops_also phase also each (TooLong file) h = each (TooLong file) h
+stops_also phase also each (Refused file r) h = each (Refused file r) h
+stops_also phase also each (Unbuilt file) h = each (Unbuilt file) h
+stops_also phase also each (Width step) h = each (Width step) h
+
 -- the stop of a writing, as it is told
 pub ends_sending : (output : Output) (stop : SendStop) (old new : Option (List ℕ)) → AddedSome old new output.bytes → MayEnd (HandsOn output) (cause_of_sending stop) old new
 ends_sending output sends.Fault old new some = (output, refl, some)

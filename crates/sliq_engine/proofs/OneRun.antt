@@ -1,13 +1,13 @@
 -- A run on a shelf that tells its texts has one end, but for faults of the shelf.
 use Rattle.std.proofs.Common.{◌≡◌, inl, inr, ℕ, ◌+◌, ◌<◌, ◌≤◌, List, [], ◌∷◌, length, Option, Some, None, IfSome, IsSome, Result, Ok, Err, refl, sym, ◌∙◌, ap, subst, arith}
 use Rattle.std.specs.List.{AllByRecursion}
-use Rattle.outside.specs.Outside.{SameTexts}
+use Rattle.outside.specs.Outside.{Shelf, SameTexts}
 use Rattle.phases.specs.Phases.{◌>>=◌, HandsOn, OnStop, Agree}
 use Rattle.phases.proofs.Ends.{agree_after, one_hands_on}
 use Rattle.sliq_engine.specs.declared.cause.Cause.{Cause}
-use Rattle.sliq_engine.specs.declared.cause.Cause.TheVariants.{Done, BadWords, ReadFault, TooLong, Refused, Unbuilt, Width, WriteFault, OutOfMemory}
+use Rattle.sliq_engine.specs.declared.cause.Cause.TheVariants.{TooLong}
 use Rattle.sliq_engine.specs.Asked.{Asked, asked_of}
-use Rattle.sliq_engine.specs.Taking.{Shelf, TakingStops, Takes}
+use Rattle.sliq_engine.specs.Taking.{TakesFile, Takes}
 use Rattle.sliq_engine.specs.Comes.{Asks, Comes}
 use Rattle.sliq_engine.specs.Laws.{IsSure}
 use Rattle.sliq_engine.proofs.CommandLemmas.{one_end}
@@ -26,17 +26,11 @@ not_both (Some x) b t e some p q short =
     absurd (omega (arith, ap length same, long, short))
 
 module _ {S : Type 0} (shelf : Shelf S) where
-  stops_long : (file : ℕ) (name : List ℕ) (old new : S) (cause : Cause) → TakingStops shelf file name old new cause → IsSure cause
+  -- a sure stop is that of a file that is too long
+  stops_long : (file : ℕ) (name : List ℕ) (old new : S) (cause : Cause) → TakesFile shelf file name old new (Err cause) → IsSure cause
       → (cause ≡ TooLong file) × IfSome (shelf.text old name) (λ t. 16777216 < length t)
-  stops_long file name old new ReadFault h s = absurd s
-  stops_long file name old new (TooLong k) h s = (ap (λ n. TooLong n) h.0, h.1.told)
-  stops_long file name old new Done h s = absurd h
-  stops_long file name old new BadWords h s = absurd h
-  stops_long file name old new (Refused i r) h s = absurd h
-  stops_long file name old new (Unbuilt i) h s = absurd h
-  stops_long file name old new (Width i) h s = absurd h
-  stops_long file name old new WriteFault h s = absurd h
-  stops_long file name old new OutOfMemory h s = absurd h
+  stops_long file name old new cause (inl fault) sure = absurd (subst IsSure fault.0 sure)
+  stops_long file name old new cause (inr long) sure = (long.0, long.1.told)
 
   -- the texts of these names are told
   abbrev pub AreTold : List (List ℕ) → S → Type 0

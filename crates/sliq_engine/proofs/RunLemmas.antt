@@ -5,7 +5,8 @@ use Rattle.sliq_engine.specs.declared.cause.Cause.{Cause}
 use Rattle.sliq_engine.specs.declared.cause.Cause.TheVariants.{BadWords}
 use Rattle.sliq_engine.specs.declared.words.Task.TheVariants.{Sim}
 use Rattle.sliq_engine.specs.Asked.{asked_of, simulation}
-use Rattle.sliq_engine.specs.Taking.{Shelf, Takes}
+use Rattle.outside.specs.Outside.{Shelf}
+use Rattle.sliq_engine.specs.Taking.{Takes}
 use Rattle.sliq_engine.specs.Commands.{CarriesOut}
 use Rattle.sliq_engine.specs.Comes.{Asks, Comes}
 use Rattle.sliq_engine.specs.Ending.{MayEnd, MayStopBy}

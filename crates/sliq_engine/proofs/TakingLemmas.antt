@@ -2,11 +2,12 @@
 use Rattle.std.proofs.Common.{◌≡◌, inl, inr, ℕ, ◌+◌, List, [], ◌∷◌, ◌++◌, length, Result, Ok, Err, refl, ap, subst, arith, map, take, drop, get_or, ◌<◌, sym, ◌∙◌, suc}
 use Rattle.std.proofs.Math.Seq.{split_at}
 use Rattle.std.proofs.lemmas.List.{map_more, map-append, length-map, length-take-le}
+use Rattle.outside.specs.Outside.{Shelf}
 use Rattle.phases.specs.Phases.{GoesOn, HandsOn}
 use Rattle.sliq_engine.specs.declared.cause.Cause.{Cause}
-use Rattle.sliq_engine.specs.declared.cause.Cause.TheVariants.{Done, BadWords, ReadFault, TooLong, Refused, Unbuilt, Width, WriteFault, OutOfMemory}
-use Rattle.sliq_engine.specs.Taking.{Shelf, Took, TakingStops, MayNotTake, Takes}
+use Rattle.sliq_engine.specs.Taking.{Took, TakesFile, Takes}
 use Rattle.sliq_engine.specs.Ending.{MayStopBy}
+use Rattle.sliq_engine.proofs.Endings.{stops_also}
 
 module _ {S : Type 0} (shelf : Shelf S) (name : List ℕ) (mid new : S) where
   -- one file more
@@ -34,11 +35,11 @@ module _ {S : Type 0} (shelf : Shelf S) (name : List ℕ) (mid new : S) where
 
   -- the next file can't be taken
   halts : (cause : Cause) (rest : List (List ℕ)) (file number : ℕ) (front : List (List ℕ)) (old : S) (texts : List (List ℕ)) → Takes shelf file front old mid (Ok texts)
-      → number ≡ file + length front → TakingStops shelf number name mid new cause → Takes shelf file (front ++ name ∷ rest) old new (Err cause)
+      → number ≡ file + length front → TakesFile shelf number name mid new (Err cause) → Takes shelf file (front ++ name ∷ rest) old new (Err cause)
   halts cause rest file number [] old texts h count stops =
       let here : number ≡ file = omega arith in
-      let there = subst (λ s. TakingStops shelf number name s new cause) h.0 stops in
-      inl (cause, subst (λ (k : ℕ). TakingStops shelf k name old new cause) here there, refl)
+      let there = subst (λ s. TakesFile shelf number name s new (Err cause)) h.0 stops in
+      inl (cause, subst (λ (k : ℕ). TakesFile shelf k name old new (Err cause)) here there, refl)
   halts cause rest file number (n ∷ front) old texts h count stops = by h (λ m ts takes. halts cause rest (file + 1) number front m ts takes (omega arith) stops)
     where
       further : (m : S) (t : List ℕ) → Took shelf n t old m → (end : Result (List (List ℕ)) Cause) → Takes shelf (file + 1) front m mid end
@@ -55,16 +56,9 @@ module _ {S : Type 0} (shelf : Shelf S) (name : List ℕ) (mid new : S) where
       by (inr s) more = further s.0 s.1 s.2 s.3.0 s.3.1 s.3.2 more
 
   pub takes_stops : (cause : Cause) (rest : List (List ℕ)) (file number : ℕ) (front : List (List ℕ)) (old : S) (texts : List (List ℕ)) → Takes shelf file front old mid (Ok texts)
-      → number ≡ file + length front → MayNotTake shelf number name mid new cause → MayStopBy (Takes shelf file (front ++ name ∷ rest) old new) cause
-  takes_stops ReadFault rest file number front old texts h count s = halts ReadFault rest file number front old texts h count s
-  takes_stops (TooLong k) rest file number front old texts h count s = halts (TooLong k) rest file number front old texts h count s
-  takes_stops OutOfMemory rest file number front old texts h count s = tt
-  takes_stops Done rest file number front old texts h count s = absurd s
-  takes_stops BadWords rest file number front old texts h count s = absurd s
-  takes_stops (Refused i r) rest file number front old texts h count s = absurd s
-  takes_stops (Unbuilt i) rest file number front old texts h count s = absurd s
-  takes_stops (Width i) rest file number front old texts h count s = absurd s
-  takes_stops WriteFault rest file number front old texts h count s = absurd s
+      → number ≡ file + length front → MayStopBy (TakesFile shelf number name mid new) cause → MayStopBy (Takes shelf file (front ++ name ∷ rest) old new) cause
+  takes_stops cause rest file number front old texts h count stops =
+      stops_also (TakesFile shelf number name mid new) (Takes shelf file (front ++ name ∷ rest) old new) (λ why halt. halts why rest file number front old texts h count halt) cause stops
 
 -- ---- the names before a place, and the one there
 module _ {S N : Type 0} (shelf : Shelf S) (bytes : N → List ℕ) (files : List N) (i : ℕ) (name : N) (within : i < length files) (here : name ≡ get_or files i name) where
@@ -83,7 +77,7 @@ module _ {S N : Type 0} (shelf : Shelf S) (bytes : N → List ℕ) (files : List
       subst (λ l. Takes shelf 1 l old new (Ok (texts ++ text ∷ []))) (sym names_more) (takes_more shelf (bytes name) mid new text took 1 (map bytes (take i files)) old texts takes)
 
   pub taking_stops : (old mid new : S) (texts : List (List ℕ)) (number : ℕ) (cause : Cause) → Takes shelf 1 (map bytes (take i files)) old mid (Ok texts) → number ≡ i + 1
-      → MayNotTake shelf number (bytes name) mid new cause → MayStopBy (Takes shelf 1 (map bytes files) old new) cause
+      → MayStopBy (TakesFile shelf number (bytes name) mid new) cause → MayStopBy (Takes shelf 1 (map bytes files) old new) cause
   taking_stops old mid new texts number cause takes count stops =
       let before : length (map bytes (take i files)) ≡ i = length-map (take i files) bytes ∙ length-take-le i files (omega arith) in
       subst (λ l. MayStopBy (Takes shelf 1 l old new) cause) (sym names_split)

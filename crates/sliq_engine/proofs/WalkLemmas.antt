@@ -80,7 +80,7 @@ working_output m n rules gates t size by =
     let z = zeros n in
     ap (λ (k : ℕ). vector_output k (vector t)) size
     ∙ ap₂ (λ g x. vector_output n (work g x)) by.accepted by.input
-    ∙ vector_output-values n (work gates z).entries (amp gates z) (work gates z).roots (exponent gates)
+    ∙ vector_output-values n (work gates z).entries (amp gates z) (work gates z).exponent (exponent gates)
     (λ x long. work-HasValues gates z x (long ∙ sym (length-replicate n false)))
 
 -- ---- the walk

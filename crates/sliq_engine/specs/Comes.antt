@@ -1,10 +1,11 @@
 -- What a run comes to.
 use Rattle.std.specs.Prelude.{◌≡◌, ℕ, List, Some, None, Ok, Err}
+use Rattle.outside.specs.Outside.{Shelf}
 use Rattle.phases.specs.Phases.{Phase, ◌>>=◌}
 use Rattle.sliq_engine.specs.declared.cause.Cause.{Cause}
 use Rattle.sliq_engine.specs.declared.cause.Cause.TheVariants.{BadWords}
 use Rattle.sliq_engine.specs.Asked.{Asked, asked_of}
-use Rattle.sliq_engine.specs.Taking.{Shelf, Takes}
+use Rattle.sliq_engine.specs.Taking.{Takes}
 use Rattle.sliq_engine.specs.Steps.{Output}
 use Rattle.sliq_engine.specs.Commands.{CarriesOut}
 

@@ -22,4 +22,4 @@ states_of n v = count_by (λ x. not (is_zero (v x))) (all_lists n)
 
 -- what is written of a vector on n qubits
 unfoldable pub vector_output : ℕ → Scaled → List ℕ
-vector_output n v = count_line Qubits n ++ listing_of n v.entries v.roots ++ count_line States (states_of n v.entries)
+vector_output n v = count_line Qubits n ++ listing_of n v.entries v.exponent ++ count_line States (states_of n v.entries)

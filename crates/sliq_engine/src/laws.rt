@@ -2,12 +2,12 @@
 ghost use Rattle.std.specs.Prelude.{◌≡◌, ◌∷◌, [], List, ℕ, codes};
 ghost use Rattle.std.specs.Prelude.{Some, IsSome};
 ghost use Rattle.std.specs.List.{AllByRecursion};
-ghost use Rattle.outside.specs.Memory.{Shelved, text_of};
+ghost use Rattle.outside.specs.Memory.{Shelved, text_of, memory};
 ghost use Rattle.sliq_engine.specs.Comes.{Comes};
 ghost use Rattle.phases.specs.Phases.{Agree, HasOneEnd, HasSomeEnd};
 ghost use Rattle.sliq_engine.specs.Asked.{Asked, asked_of};
 ghost use Rattle.sliq_engine.specs.Commands.{CarriesOut};
-ghost use Rattle.sliq_engine.specs.Laws.{IsSure, memory};
+ghost use Rattle.sliq_engine.specs.Laws.{IsSure};
 ghost use Rattle.sliq_engine.specs.Sim.{sim_output};
 
 use gate_set::Kind;
@@ -38,5 +38,6 @@ pub fn small_outputs()
     ensures h_t_h { sim_output 1 (record { kind = Kind.H; on = 0 ∷ [] } ∷ record { kind = Kind.T; on = 0 ∷ [] } ∷ record { kind = Kind.H; on = 0 ∷ [] } ∷ [])
         ≡ codes "qubits 1\n|0> (0,0,1,1)/sqrt2^2\n|1> (0,0,-1,1)/sqrt2^2\nstates 2\n" }
 {
+    // The clauses name kinds; an import wants a use in code too.
     let _ = Kind::H;
 }

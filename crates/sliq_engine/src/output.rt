@@ -76,9 +76,9 @@ fn send_nonzero<A: Amplitudes, K: Sink>(
 ) -> Result<u128, SendStop>
     requires few { qubits ≤ 64 }
     requires size { length (A.standing state.now).input ≡ qubits }
-    ensures ok { OnOk result (Sent (K.written out.old) waiting.old (K.written out.new) waiting.new (listing_of qubits (vector (A.standing state.now)).entries (vector (A.standing state.now)).roots)) }
+    ensures ok { OnOk result (Sent (K.written out.old) waiting.old (K.written out.new) waiting.new (listing_of qubits (vector (A.standing state.now)).entries (vector (A.standing state.now)).exponent)) }
     ensures count { IfOk result (λ m. m ≡ states_of qubits (vector (A.standing state.now)).entries) }
-    ensures err { OnErr result (SentSome (K.written out.old) waiting.old (K.written out.new) (listing_of qubits (vector (A.standing state.now)).entries (vector (A.standing state.now)).roots)) }
+    ensures err { OnErr result (SentSome (K.written out.old) waiting.old (K.written out.new) (listing_of qubits (vector (A.standing state.now)).entries (vector (A.standing state.now)).exponent)) }
     ensures fault { IsErrOf result SendStop.Fault → Rose (K.faults out.old) (K.faults out.new) }
     ensures counts { K.faults out.old ≤ K.faults out.new }
 {

@@ -1,7 +1,7 @@
 //! The texts of a run's files, taken from the shelf.
 ghost use Rattle.std.specs.Prelude.{◌≡◌, ◌≤◌, IfOk, IfErr, Ok, All, length, vec_len, map, string_bytes};
 ghost use Rattle.outside.specs.Outside.{SameTexts, NoneFalls};
-ghost use Rattle.sliq_engine.specs.Taking.{Took, Takes, MayNotTake};
+ghost use Rattle.sliq_engine.specs.Taking.{TakesFile, Takes};
 ghost use Rattle.sliq_engine.specs.Ending.{MayStopBy};
 ghost use Rattle.sliq_engine.specs.Private.{bytes_of};
 
@@ -37,8 +37,8 @@ pub fn take_all<S: Shelf>(
 
 // The text of the file of this number.
 fn take<S: Shelf>(alloc: Global, shelf: &mut S, file: u8, name: &str) -> Result<Vec<u8>, Cause>
-    ensures took { IfOk result (λ text. Took (record { text = S.text; faults = S.faults; ready = S.ready; taken = S.taken; ended = S.ended }) name.now text.items shelf.old shelf.new) }
-    ensures stop { IfErr result (MayNotTake (record { text = S.text; faults = S.faults; ready = S.ready; taken = S.taken; ended = S.ended }) file name.now shelf.old shelf.new) }
+    ensures takes { IfOk result (λ text. TakesFile (record { text = S.text; faults = S.faults; ready = S.ready; taken = S.taken; ended = S.ended }) file name.now shelf.old shelf.new (Ok text.items)) }
+    ensures stop { IfErr result (MayStopBy (TakesFile (record { text = S.text; faults = S.faults; ready = S.ready; taken = S.taken; ended = S.ended }) file name.now shelf.old shelf.new)) }
     ensures texts { SameTexts (S.text shelf.old) (S.text shelf.new) }
     ensures counts { NoneFalls (S.faults shelf.old) (S.faults shelf.new) }
 {

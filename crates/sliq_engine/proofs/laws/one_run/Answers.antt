@@ -1,4 +1,4 @@
-use Rattle.sliq_engine.specs.Laws.{memory}
+use Rattle.outside.specs.Memory.{memory}
 use Rattle.sliq_engine.proofs.OneRun.{one_run}
 use Rattle.sliq_engine.proofs.laws.one_run.Goals as goal
 

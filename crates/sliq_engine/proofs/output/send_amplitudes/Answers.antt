@@ -13,7 +13,7 @@ unfolding vector_output
 returns-in_err-send_count-clause-err g c =
     let w = vector (g.A.Amplitudes.standing c.args.state.now) in
     let q = count_line Qubits c.args.qubits in
-    let l = listing_of c.args.qubits w.entries w.roots in
+    let l = listing_of c.args.qubits w.entries w.exponent in
     let t = count_line States (states_of c.args.qubits w.entries) in
     on_err _ _ (some_of (g.K.Sink.written c.args.out.now) (g.K.Sink.written c.send_count.new.out) c.in_ok-waiting.waiting (q ++ l ++ t) c.in_ok-waiting.ensures (some_front t (some_front l c.in_err-send_count.ensures.err)))
 
@@ -22,7 +22,7 @@ unfolding vector_output
 returns-in_err-states-clause-err g c =
     let w = vector (g.A.Amplitudes.standing c.args.state.now) in
     let q = count_line Qubits c.args.qubits in
-    let l = listing_of c.args.qubits w.entries w.roots in
+    let l = listing_of c.args.qubits w.entries w.exponent in
     let t = count_line States (states_of c.args.qubits w.entries) in
     on_err _ _ (some_of (g.K.Sink.written c.args.out.now) (g.K.Sink.written c.send_nonzero.new.out) c.in_ok-waiting.waiting (q ++ l ++ t) c.in_ok-waiting.ensures (some_front t (sent_fault c.in_ok-send_count.ensures.ok c.in_err-states.ensures.err)))
 
@@ -31,7 +31,7 @@ unfolding vector_output
 returns-in_err-send_count-2-clause-err g c =
     let w = vector (g.A.Amplitudes.standing c.args.state.now) in
     let q = count_line Qubits c.args.qubits in
-    let l = listing_of c.args.qubits w.entries w.roots in
+    let l = listing_of c.args.qubits w.entries w.exponent in
     let P : ℕ → Type 0 = λ m. AddedSome (g.K.Sink.written c.args.out.now) (g.K.Sink.written c.send_count-2.new.out) (q ++ l ++ count_line States m) in
     on_err _ _ (subst P c.in_ok-states.ensures.count (some_of (g.K.Sink.written c.args.out.now) (g.K.Sink.written c.send_count-2.new.out) c.in_ok-waiting.waiting (q ++ l ++ count_line States c.in_ok-states.states) c.in_ok-waiting.ensures
     (sent_fault (sent_then c.in_ok-send_count.ensures.ok c.in_ok-states.ensures.ok) c.in_err-send_count-2.ensures.err)))
@@ -41,7 +41,7 @@ unfolding vector_output
 returns-in_err-flush-clause-err g c =
     let w = vector (g.A.Amplitudes.standing c.args.state.now) in
     let q = count_line Qubits c.args.qubits in
-    let l = listing_of c.args.qubits w.entries w.roots in
+    let l = listing_of c.args.qubits w.entries w.exponent in
     let P : ℕ → Type 0 = λ m. AddedSome (g.K.Sink.written c.args.out.now) (g.K.Sink.written c.flush.new.out) (q ++ l ++ count_line States m) in
     on_err _ _ (subst P c.in_ok-states.ensures.count (flushed_some (g.K.Sink.written c.args.out.now) (g.K.Sink.written c.send_count-2.new.out) (g.K.Sink.written c.flush.new.out)
     c.in_ok-waiting.waiting c.send_count-2.new.waiting (q ++ l ++ count_line States c.in_ok-states.states) c.in_ok-waiting.ensures
@@ -52,7 +52,7 @@ unfolding vector_output
 returns-clause-ok g c =
     let w = vector (g.A.Amplitudes.standing c.args.state.now) in
     let q = count_line Qubits c.args.qubits in
-    let l = listing_of c.args.qubits w.entries w.roots in
+    let l = listing_of c.args.qubits w.entries w.exponent in
     let P : ℕ → Type 0 = λ m. Added (g.K.Sink.written c.args.out.now) (g.K.Sink.written c.flush.new.out) (q ++ l ++ count_line States m) in
     subst P c.in_ok-states.ensures.count (flushed (g.K.Sink.written c.args.out.now) (g.K.Sink.written c.send_count-2.new.out) (g.K.Sink.written c.flush.new.out)
     c.in_ok-waiting.waiting c.send_count-2.new.waiting (q ++ l ++ count_line States c.in_ok-states.states) c.in_ok-waiting.ensures

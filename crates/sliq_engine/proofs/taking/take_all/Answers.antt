@@ -3,7 +3,9 @@ use Rattle.std.proofs.lemmas.List.{map-append}
 use Rattle.std.proofs.lemmas.List.Elements.{All-append, All-cons, All-nil}
 use Rattle.sliq_engine.specs.declared.cause.Cause.{Cause}
 use Rattle.sliq_engine.specs.Private.{bytes_of}
-use Rattle.sliq_engine.specs.Taking.{Shelf, Took, MayNotTake}
+use Rattle.outside.specs.Outside.{Shelf}
+use Rattle.sliq_engine.specs.Taking.{Took, TakesFile}
+use Rattle.sliq_engine.specs.Ending.{MayStopBy}
 use Rattle.sliq_engine.proofs.TakingLemmas.{taken_on, taking_stops}
 use Rattle.sliq_engine.proofs.taking.take_all.Goals as goal
 
@@ -16,8 +18,8 @@ returns-in_err-text-clause-stop g c =
     let cause : Cause = c.in_err-text.field-0.0 in
     let within : i < length files = search rules in
     let told : c.from_residual.result ≡ Err cause = search rules in
-    let stops : MayNotTake shelf c.files.file (string_bytes c.name-item.result) c.files.shelf c.take.new.shelf cause =
-    subst (λ (n : List ℕ). MayNotTake shelf c.files.file n c.files.shelf c.take.new.shelf cause) c.deref.ensures c.in_err-text.ensures.stop in
+    let stops : MayStopBy (TakesFile shelf c.files.file (string_bytes c.name-item.result) c.files.shelf c.take.new.shelf) cause =
+    subst (λ (n : List ℕ). MayStopBy (TakesFile shelf c.files.file n c.files.shelf c.take.new.shelf) cause) c.deref.ensures c.in_err-text.ensures.stop in
     rw told (taking_stops shelf string_bytes files i c.name-item.result within c.name-item.is c.args.shelf.now c.files.shelf c.take.new.shelf (bytes_of c.files.texts.items) c.files.file cause c.files.invariant.takes c.files.invariant.number stops)
 
 pub files-preserved : goal.files-preserved
@@ -33,7 +35,7 @@ files-preserved g c =
     let bytes : bytes_of c.push.new.self.items ≡ bytes_of c.files.texts.items ++ text.items ∷ [] =
     ap bytes_of pushed ∙ map-append (λ (v : Vec ℕ Global). v.items) c.files.texts.items (text ∷ []) in
     let took : Took shelf (string_bytes c.name-item.result) text.items c.files.shelf c.take.new.shelf =
-    subst (λ (n : List ℕ). Took shelf n text.items c.files.shelf c.take.new.shelf) c.deref.ensures c.in_ok-text.ensures.took in
+    subst (λ (n : List ℕ). Took shelf n text.items c.files.shelf c.take.new.shelf) c.deref.ensures c.in_ok-text.ensures.takes in
     let Short : List ℕ → Type 0 = λ t. length t ≤ 16777216 in
     record {
       takes = rw bytes (taken_on shelf string_bytes files i c.name-item.result within c.name-item.is c.args.shelf.now c.files.shelf c.take.new.shelf (bytes_of c.files.texts.items) text.items so_far.takes took);

@@ -23,14 +23,14 @@ overflow_sub-first c =
     let b = c.args.self.now.block in
     let n = c.args.self.now.controls in
     let less : 2 ^ block_arity b ≤ 2 ^ (n + block_arity b) = pow_mono (omega arith) in
-    rw (c.side-2.ensures, c.side.ensures, c.arity-2.ensures.value, c.arity.ensures.value) less
+    rw (c.side-2.ensures, c.side.ensures, c.arity.ensures.value) less
 
 pub returns-in-Some-Some : goal.returns-in-Some-Some
 returns-in-Some-Some c =
     let b = c.args.self.now.block in
     let n = c.args.self.now.controls in
     let first = c.side.result - c.side-2.result in
-    let at = begins n (block_arity b) c.side.result c.side-2.result (c.side.ensures ∙ ap (λ k. 2 ^ k) c.arity.ensures.value) (c.side-2.ensures ∙ ap (λ k. 2 ^ k) c.arity-2.ensures.value) in
+    let at = begins n (block_arity b) c.side.result c.side-2.result c.side.ensures (c.side-2.ensures ∙ ap (λ k. 2 ^ k) c.arity.ensures.value) in
     let rows = at_some _ _ _ _ c.checked_sub.ensures c.in-Some-Some.is-0 in
     let cols = at_some _ _ _ _ c.checked_sub-2.ensures c.in-Some-Some.is-1 in
     c.entry.ensures ∙ ap (λ k. entry_at (block_matrix b) k c.in-Some-Some.col) rows.1 ∙ ap (λ k. entry_at (block_matrix b) (c.args.row - first) k) cols.1
@@ -41,7 +41,7 @@ returns-in_default c =
     let b = c.args.self.now.block in
     let n = c.args.self.now.controls in
     let first = c.side.result - c.side-2.result in
-    let at = begins n (block_arity b) c.side.result c.side-2.result (c.side.ensures ∙ ap (λ k. 2 ^ k) c.arity.ensures.value) (c.side-2.ensures ∙ ap (λ k. 2 ^ k) c.arity-2.ensures.value) in
+    let at = begins n (block_arity b) c.side.result c.side-2.result c.side.ensures (c.side-2.ensures ∙ ap (λ k. 2 ^ k) c.arity.ensures.value) in
     let early : (c.args.row < first) ⊎ (c.args.col < first) =
     elim c.in_default.branch [
       | in_default-via-in-Some+in_default w ↦ inr (not_above _ _ (at_none _ _ _ c.checked_sub-2.ensures w.in_default.is-1))
@@ -54,7 +54,7 @@ returns-in_default-2 c =
     let b = c.args.self.now.block in
     let n = c.args.self.now.controls in
     let first = c.side.result - c.side-2.result in
-    let at = begins n (block_arity b) c.side.result c.side-2.result (c.side.ensures ∙ ap (λ k. 2 ^ k) c.arity.ensures.value) (c.side-2.ensures ∙ ap (λ k. 2 ^ k) c.arity-2.ensures.value) in
+    let at = begins n (block_arity b) c.side.result c.side-2.result c.side.ensures (c.side-2.ensures ∙ ap (λ k. 2 ^ k) c.arity.ensures.value) in
     let early : (c.args.row < first) ⊎ (c.args.col < first) =
     elim c.in_default.branch [
       | in_default-via-in-Some+in_default w ↦ inr (not_above _ _ (at_none _ _ _ c.checked_sub-2.ensures w.in_default.is-1))
