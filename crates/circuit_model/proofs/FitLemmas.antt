@@ -1,11 +1,11 @@
 -- Gates that all fit a width, and one more; and that a vector fits or doesn't.
-use Rattle.std.proofs.Common.{◌≡◌, ◌⊎◌, inl, inr, ℕ, zero, suc, ◌+◌, ◌-◌, ◌^◌, refl, sym, ◌∙◌, ap, subst, Bool, true, false, List, [], ◌∷◌, ◌++◌, length, arith, ℤ, pos, neg_ℤ}
+use Rattle.std.proofs.Common.{◌≡◌, ◌⊎◌, inl, inr, ℕ, zero, suc, ◌-◌, ◌^◌, refl, ap, subst, Bool, true, false, List, [], ◌∷◌, ◌++◌, length, arith, ℤ, pos, neg_ℤ}
 use Rattle.std.specs.Int.Signed.{clash_ℤ}
 use Rattle.std.proofs.lemmas.Int.{by_lt_z}
-use Rattle.std.proofs.lemmas.List.{append_assoc, append-nil, length-append}
+use Rattle.std.proofs.lemmas.List.{length-append}
 use Rattle.ring_omega.specs.declared.quad.Quad.{Quad}
 use Rattle.gate_set.specs.declared.gate.Gate.{Gate}
-use Rattle.circuit_model.specs.Working.{raw, work, IntFits, QuadFits, FitsWidth, AllFit, IsFirstUnfit}
+use Rattle.circuit_model.specs.Working.{raw, work, IntFits, QuadFits, FitsWidth, AllFit}
 
 -- ---- two splits of one list
 -- they are the same, or one front goes past the other's element
