@@ -8,8 +8,10 @@ use Rattle.sliq_engine.specs.Commands.{CarriesOut}
 use Rattle.sliq_engine.specs.Laws.{IsSure}
 use Rattle.sliq_engine.proofs.SimLemmas.{one_sims, some_sims}
 
+-- at most one end, command by command
 pub one_end : (it : Task) (rules : Settings) (texts : List (List ℕ)) → HasOneEnd IsSure (CarriesOut it rules texts)
 one_end task.Sim rules texts = one_sims rules (get_or texts 0 [])
 
+-- some end, command by command
 pub some_end : (it : Task) (rules : Settings) (texts : List (List ℕ)) → HasSomeEnd IsSure (CarriesOut it rules texts)
 some_end task.Sim rules texts = some_sims rules (get_or texts 0 [])

@@ -36,10 +36,12 @@ module _ {S : Type 0} (shelf : Shelf S) where
   abbrev pub AreTold : List (List ℕ) → S → Type 0
   AreTold names s = AllByRecursion (λ name. IsSome (shelf.text s name)) names
 
+  -- what is told stays told
   told_after : (names : List (List ℕ)) (old new : S) → SameTexts (shelf.text old) (shelf.text new) → AreTold names old → AreTold names new
   told_after [] old new same h = tt
   told_after (n ∷ names) old new same h = (subst (λ o. IsSome o) (sym (same n)) h.0, told_after names old new same h.1)
 
+  -- told files are taken in one way
   pub one_taking : (file : ℕ) (names : List (List ℕ)) (old also new other : S) (a b : Result (List (List ℕ)) Cause) → SameTexts (shelf.text old) (shelf.text also) → AreTold names old
       → Takes shelf file names old new a → Takes shelf file names also other b → OnStop IsSure a → OnStop IsSure b → a ≡ b
   one_taking file [] old also new other a b same told p q s t = p.1 ∙ sym q.1
@@ -65,12 +67,14 @@ module _ {S : Type 0} (shelf : Shelf S) where
           agree_after IsSure (Takes shelf (file + 1) names x.0 new) (Takes shelf (file + 1) names y.0 other) (λ ts. HandsOn (x.1 ∷ ts)) (λ ts. HandsOn (x.1 ∷ ts))
           (more x.0 y.0 between (told_after names old x.0 x.2.texts told.1)) (λ ts u. one_hands_on IsSure (x.1 ∷ ts)) a b x.3 second s t
 
+  -- words ask for one thing
   one_asking : (words : List (List ℕ)) (old new other : S) → Agree IsSure (Asks words old new) (Asks words old other)
   one_asking words old new other (Ok x) (Ok y) p q s t = let e : Some x ≡ Some y = sym p ∙ q in let l : x ≡ y = cc in ap Ok l
   one_asking words old new other (Ok x) (Err d) p q s t = absurd (let e : Some x ≡ None = sym p ∙ q.0 in cc)
   one_asking words old new other (Err c) (Ok y) p q s t = absurd (let e : Some y ≡ None = sym q ∙ p.0 in cc)
   one_asking words old new other (Err c) (Err d) p q s t = ap Err (p.2 ∙ sym q.2)
 
+  -- a run comes to one end
   pub one_run : (words : List (List ℕ)) (old new other : S) → ((asked : Asked) → asked_of words ≡ Some asked → AreTold asked.files old)
       → Agree IsSure (Comes shelf words old new) (Comes shelf words old other)
   one_run words old new other told =

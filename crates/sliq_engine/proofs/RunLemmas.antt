@@ -12,14 +12,17 @@ use Rattle.sliq_engine.specs.Comes.{Asks, Comes}
 use Rattle.sliq_engine.specs.Ending.{MayEnd, MayStopBy}
 use Rattle.sliq_engine.proofs.Endings.{ends_first, ends_after}
 
+-- the words ask for nothing
 pub run_bad : {S : Type 0} (shelf : Shelf S) (words : List (List ℕ)) (old : S) (out : Option (List ℕ)) → asked_of words ≡ None
     → MayEnd (Comes shelf words old old) BadWords out out
 run_bad shelf words old out none = ends_first (Asks words old old) _ BadWords out (none, refl, refl)
 
 module _ {S : Type 0} (shelf : Shelf S) (words files : List (List ℕ)) (old new : S) (asks : asked_of words ≡ Some (simulation files)) where
+  -- a file can't be taken
   pub run_untaken : (cause : Cause) (out : Option (List ℕ)) → MayStopBy (Takes shelf 1 files old new) cause → MayEnd (Comes shelf words old new) cause out out
   run_untaken cause out h = ends_after (Asks words old new) _ (simulation files) cause out out asks (ends_first (Takes shelf 1 files old new) _ cause out h)
 
+  -- the files are taken, and the command ends so
   pub run_taken : (texts : List (List ℕ)) (rules : Settings) (cause : Cause) (before now : Option (List ℕ)) → Takes shelf 1 files old new (Ok texts) → rules ≡ usual_rules
       → MayEnd (CarriesOut Sim rules texts) cause before now → MayEnd (Comes shelf words old new) cause before now
   run_taken texts rules cause before now takes usual h =

@@ -20,6 +20,7 @@ use Rattle.sliq_engine.proofs.Endings.{ends_first, ends_after, ends_sending}
 use Rattle.sliq_engine.proofs.StepLemmas.{one_reads, some_reads, one_simulates, some_simulates, some_built}
 use Rattle.sliq_engine.proofs.WalkLemmas.{working_output}
 
+-- it has at most one end
 pub one_sims : (rules : Settings) (text : List ℕ) → HasOneEnd IsSure (Sims rules text)
 one_sims rules text =
     one_after IsSure _ _ (one_reads 1 text)
@@ -27,6 +28,7 @@ one_sims rules text =
     (λ _. one_after IsSure _ _ (one_simulates rules (zeros c.qubits) c.gates)
     (λ _. one_hands_on IsSure _)))
 
+-- it has some end
 pub some_sims : (rules : Settings) (text : List ℕ) → HasSomeEnd IsSure (Sims rules text)
 some_sims rules text =
     some_after IsSure _ _ (some_reads 1 text)
@@ -53,9 +55,11 @@ module _ (rules : Settings) (text : List ℕ) where
           (ends_first (Simulates dense_policy rules (zeros c.qubits) c.gates) _ cause out h))
 
       module _ (t : Standing) (simulates : Simulates dense_policy rules (zeros c.qubits) c.gates (Ok t)) (m : ℕ) (size : m ≡ c.qubits) where
+        -- what is sent is the circuit's output
         bytes : vector_output m (vector t) ≡ sim_output c.qubits c.gates
         bytes = working_output m c.qubits rules c.gates t size (walked dense_policy (begun (zeros c.qubits) rules) c.gates t simulates)
 
+        -- it ends as its last phase may
         ended : (cause : Cause) (old new : Option (List ℕ)) → MayEnd (HandsOn (record { cause = Done; bytes = sim_output c.qubits c.gates })) cause old new → MayEnd (Sims rules text) cause old new
         ended cause old new h =
             ends_after (Reads 1 text) _ c cause old new reads

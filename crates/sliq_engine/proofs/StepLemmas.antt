@@ -20,6 +20,7 @@ use Rattle.sliq_engine.specs.Steps.{Reads, cause_of, Simulates}
 use Rattle.sliq_engine.specs.Ending.{MayStopBy}
 use Rattle.sliq_engine.specs.Laws.{IsSure}
 
+-- a text reads in one way
 pub one_reads : (file : ℕ) (text : List ℕ) → HasOneEnd IsSure (Reads file text)
 one_reads file text (Ok c) (Ok d) p q s t = let e = one_reading text 64 (circuit c) (circuit d) p q in let same : c ≡ d = cc in ap Ok same
 one_reads file text (Ok c) (Err a) p q s t = absurd (let e = one_reading text 64 (circuit c) (refusal q.0.statement q.0.why) p q.1 in cc)
@@ -31,6 +32,7 @@ one_reads file text (Err a) (Err b) p q s t =
     let same : p.0 ≡ q.0 = ap₂ (λ (n : ℕ) (w : Why). let t : Refusal = record { statement = n; why = w } in t) number why in
     ap Err (p.2 ∙ ap (λ (r : Refusal). Refused file r) same ∙ sym q.2)
 
+-- and in some way
 pub some_reads : (file : ℕ) (text : List ℕ) → HasSomeEnd IsSure (Reads file text)
 some_reads file text = let r = every_reading 64 text in by r.0 r.1
   where
@@ -38,9 +40,11 @@ some_reads file text = let r = every_reading 64 text in by r.0 r.1
     by (circuit c) h = (Ok c, h, tt)
     by (refusal n why) h = let r : Refusal = record { statement = n; why = why } in (Err (Refused file r), (r, h, refl), tt)
 
+-- gates come to one end
 pub one_simulates : (rules : Settings) (input : List Bool) (gates : List Gate) → HasOneEnd IsSure (Simulates dense_policy rules input gates)
 one_simulates rules input gates = one_told IsSure cause_of (Walks dense_policy (begun input rules) gates) (one_dense (λ stop. IsSure (cause_of stop)) (begun input rules) gates)
 
+-- and to some end
 pub some_simulates : (rules : Settings) (input : List Bool) (gates : List Gate) → HasSomeEnd IsSure (Simulates dense_policy rules input gates)
 some_simulates rules input gates =
     some_told IsSure cause_of (Walks dense_policy (begun input rules) gates) (some_dense (λ stop. IsSure (cause_of stop)) (λ number. tt) (begun input rules) gates)

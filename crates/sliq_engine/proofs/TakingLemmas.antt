@@ -55,6 +55,7 @@ module _ {S : Type 0} (shelf : Shelf S) (name : List ℕ) (mid new : S) where
       by (inl s) more = absurd (let none : Ok texts ≡ Err s.0 = s.2 in cc)
       by (inr s) more = further s.0 s.1 s.2 s.3.0 s.3.1 s.3.2 more
 
+  -- the next file can't be taken, or memory is wanted
   pub takes_stops : (cause : Cause) (rest : List (List ℕ)) (file number : ℕ) (front : List (List ℕ)) (old : S) (texts : List (List ℕ)) → Takes shelf file front old mid (Ok texts)
       → number ≡ file + length front → MayStopBy (TakesFile shelf number name mid new) cause → MayStopBy (Takes shelf file (front ++ name ∷ rest) old new) cause
   takes_stops cause rest file number front old texts h count stops =
@@ -66,16 +67,19 @@ module _ {S N : Type 0} (shelf : Shelf S) (bytes : N → List ℕ) (files : List
   names_more : map bytes (take (i + 1) files) ≡ map bytes (take i files) ++ bytes name ∷ []
   names_more = map_more bytes files i name within ∙ ap (λ (n : N). map bytes (take i files) ++ bytes n ∷ []) (sym here)
 
+  -- all names, split at this one
   names_split : map bytes files ≡ map bytes (take i files) ++ bytes name ∷ map bytes (drop (suc i) files)
   names_split =
       ap (map bytes) (split_at files i name within ∙ ap (λ (n : N). take i files ++ n ∷ drop (suc i) files) (sym here))
       ∙ map-append bytes (take i files) (name ∷ drop (suc i) files)
 
+  -- one file more is taken
   pub taken_on : (old mid new : S) (texts : List (List ℕ)) (text : List ℕ) → Takes shelf 1 (map bytes (take i files)) old mid (Ok texts) → Took shelf (bytes name) text mid new
       → Takes shelf 1 (map bytes (take (i + 1) files)) old new (Ok (texts ++ text ∷ []))
   taken_on old mid new texts text takes took =
       subst (λ l. Takes shelf 1 l old new (Ok (texts ++ text ∷ []))) (sym names_more) (takes_more shelf (bytes name) mid new text took 1 (map bytes (take i files)) old texts takes)
 
+  -- the taking stops at this file
   pub taking_stops : (old mid new : S) (texts : List (List ℕ)) (number : ℕ) (cause : Cause) → Takes shelf 1 (map bytes (take i files)) old mid (Ok texts) → number ≡ i + 1
       → MayStopBy (TakesFile shelf number (bytes name) mid new) cause → MayStopBy (Takes shelf 1 (map bytes files) old new) cause
   taking_stops old mid new texts number cause takes count stops =
