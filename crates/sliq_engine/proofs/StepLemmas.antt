@@ -1,5 +1,5 @@
 -- The phases that commands are made of: each has one end, and its stops are those that are told.
-use Rattle.std.proofs.Common.{◌≡◌, ◌⊎◌, inl, inr, ℕ, ◌<◌, List, Bool, Ok, Err, refl, sym, ◌∙◌, ap, arith}
+use Rattle.std.proofs.Common.{◌≡◌, inl, inr, ℕ, ◌<◌, List, Bool, Ok, Err, refl, sym, ◌∙◌, ap, arith}
 use Rattle.std.proofs.Math.Path.{ap₂}
 use Rattle.std.proofs.lemmas.Bool.{cases_lt}
 use Rattle.gate_set.specs.declared.gate.Gate.{Gate}

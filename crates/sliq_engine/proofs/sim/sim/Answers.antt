@@ -1,8 +1,8 @@
-use Rattle.std.proofs.Common.{rules, ◌≡◌, ◌<◌, ℕ, Bool, List, Err, Ok, length, replicate, false, sym, ◌∙◌, ap, subst, arith}
+use Rattle.std.proofs.Common.{rules, ◌≡◌, Bool, List, Err, Ok, length, false, sym, ◌∙◌, ap, subst}
 use Rattle.std.specs.List.{range_with_len}
 use Rattle.std.proofs.lemmas.List.{length-replicate}
 use Rattle.gate_set.specs.Circuits.{Circuit}
-use Rattle.amp_dense.specs.Standing.{Standing, Walks, begun, dense_policy}
+use Rattle.amp_dense.specs.Standing.{Standing, begun, dense_policy}
 use Rattle.amp_dense.proofs.Walking.{walked}
 use Rattle.sliq_engine.specs.declared.output.SendStop.{SendStop}
 use Rattle.sliq_engine.specs.declared.cause.Cause.{Cause}

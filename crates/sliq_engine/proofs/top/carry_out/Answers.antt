@@ -1,4 +1,4 @@
-use Rattle.std.proofs.Common.{◌≡◌, ℕ, List, Vec, Global, map, string_bytes, subst}
+use Rattle.std.proofs.Common.{ℕ, List, Vec, Global, map, string_bytes, subst}
 use Rattle.sliq_engine.specs.declared.cause.Cause.TheVariants.{Done}
 use Rattle.sliq_engine.specs.declared.words.Task.TheVariants.{Sim}
 use Rattle.sliq_engine.specs.Commands.{CarriesOut}
