@@ -2,6 +2,7 @@
 use Rattle.std.specs.Prelude.{ℕ, Bool, List, ◌++◌, codes, decimal}
 use Rattle.std.specs.Fmt.{signed_decimal}
 use Rattle.ring_omega.specs.declared.quad.Quad.{Quad}
+use Rattle.ring_omega.specs.declared.weight.Weight.{Weight}
 use Rattle.bit_lists.specs.Lists.{bits_text}
 use Rattle.amp_printer.specs.declared.counted.Counted.{Counted}
 use Rattle.amp_printer.specs.declared.counted.Counted.TheVariants.{Qubits, States, Measured, Outcomes, Gates, Exponent}
@@ -15,6 +16,10 @@ entry_text q k =
 -- the basis state x with the amplitude q/√2^k: `|BITS> ENTRY` and a line feed
 unfoldable pub state_line : List Bool → Quad → ℕ → List ℕ
 state_line x q k = codes "|" ++ bits_text x ++ codes "> " ++ entry_text q k ++ codes "\n"
+
+-- the outcome x with the probability w over the k-th power of 2: `BITS (A,B)/2^k` and a line feed
+unfoldable pub weight_line : List Bool → Weight → ℕ → List ℕ
+weight_line x w k = bits_text x ++ codes " (" ++ signed_decimal w.a ++ codes "," ++ signed_decimal w.b ++ codes ")/2^" ++ decimal k ++ codes "\n"
 
 abbrev pub word_of : Counted → List ℕ
 word_of Qubits = codes "qubits"

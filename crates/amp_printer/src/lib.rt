@@ -4,9 +4,11 @@
 mod counted;
 mod entry;
 mod line;
+mod outcome;
 #[cfg(test)]
 mod tests;
 
 pub use counted::{Counted, count_line};
 pub use entry::{entry_text, state_line};
 pub use line::Line;
+pub use outcome::weight_line;

@@ -1,6 +1,6 @@
 use super::*;
 use bit_lists::Bits;
-use ring_omega::Quad;
+use ring_omega::{Quad, Weight};
 use std::test::Fail;
 
 fn quad(a: i128, b: i128, c: i128, d: i128) -> Quad {
@@ -46,6 +46,33 @@ fn states(rt: HostRuntime) -> Result<(), Fail> {
         let short = x.len() <= 64;
         assert!(rt; short);
         assert_eq!(rt; state_line(&x, q, k).as_bytes(), want.as_bytes());
+    }
+    Ok(())
+}
+
+#[test]
+fn weights(rt: HostRuntime) -> Result<(), Fail> {
+    let ones = "1111111111111111111111111111111111111111111111111111111111111111";
+    for (bits, a, b, k, want) in [
+        ("0", 2, 1, 2, "0 (2,1)/2^2\n"),
+        ("1", 2, -1, 2, "1 (2,-1)/2^2\n"),
+        ("", 1, 0, 0, " (1,0)/2^0\n"),
+        ("0110", 0, 0, 7, "0110 (0,0)/2^7\n"),
+        (
+            ones,
+            i128::MAX,
+            i128::MIN,
+            u32::MAX,
+            "1111111111111111111111111111111111111111111111111111111111111111 (170141183460469231731687303715884105727,-170141183460469231731687303715884105728)/2^4294967295\n",
+        ),
+    ] {
+        let x = Bits::from_text(bits.as_bytes()).ok_or("no bits")?;
+        let short = x.len() <= 64;
+        assert!(rt; short);
+        assert_eq!(rt;
+            weight_line(&x, Weight { a, b }, k).as_bytes(),
+            want.as_bytes()
+        );
     }
     Ok(())
 }

@@ -1,0 +1,12 @@
+//! Exact probabilities: the weights of states and of the outcomes of a measurement.
+#![tactic(auto)]
+
+mod laws;
+mod outcome;
+#[cfg(test)]
+mod tests;
+mod weigh;
+
+pub use laws::states_by_outcome;
+pub use outcome::{counted, fixed_to, measured_count};
+pub use weigh::{Weigh, WeighStop, weigh_dense};
