@@ -5,7 +5,7 @@ use Rattle.phases.specs.Phases.{Phase, ◌>>=◌, HandsOn}
 use Rattle.sliq_engine.specs.declared.output.SendStop.{SendStop}
 use Rattle.sliq_engine.specs.declared.output.SendStop.TheVariants as sends
 use Rattle.sliq_engine.specs.declared.cause.Cause.{Cause}
-use Rattle.sliq_engine.specs.declared.cause.Cause.TheVariants.{Done, BadWords, ReadFault, TooLong, Refused, Unbuilt, Width, WriteFault, OutOfMemory}
+use Rattle.sliq_engine.specs.declared.cause.Cause.TheVariants.{Done, BadWords, ReadFault, TooLong, Refused, Unbuilt, Width, WeightTooWide, WriteFault, OutOfMemory}
 use Rattle.sliq_engine.specs.Steps.{Output}
 use Rattle.sliq_engine.specs.Ending.{MayEnd, MayStopBy}
 use Rattle.sliq_engine.specs.Private.{cause_of_sending}
@@ -22,6 +22,7 @@ module _ {X : Type 0} (first : Phase X Cause) (next : X → Phase Output Cause) 
   ends_first (Refused file r) out h = ((Err (Refused file r), h, refl), refl)
   ends_first (Unbuilt file) out h = ((Err (Unbuilt file), h, refl), refl)
   ends_first (Width step) out h = ((Err (Width step), h, refl), refl)
+  ends_first WeightTooWide out h = ((Err WeightTooWide, h, refl), refl)
 
   -- the first phase hands x on, and the run ends as the next one may
   pub ends_after : (x : X) (cause : Cause) (old new : Option (List ℕ)) → first (Ok x) → MayEnd (next x) cause old new → MayEnd (first >>= next) cause old new
@@ -35,6 +36,7 @@ module _ {X : Type 0} (first : Phase X Cause) (next : X → Phase Output Cause) 
   ends_after x (Refused file r) old new f h = ((Ok x, f, h.0), h.1)
   ends_after x (Unbuilt file) old new f h = ((Ok x, f, h.0), h.1)
   ends_after x (Width step) old new f h = ((Ok x, f, h.0), h.1)
+  ends_after x WeightTooWide old new f h = ((Ok x, f, h.0), h.1)
 
 -- a phase may stop so where one may whose stops are its stops
 pub stops_also : {X Y : Type 0} (phase : Phase X Cause) (also : Phase Y Cause) → ((cause : Cause) → phase (Err cause) → also (Err cause)) → (cause : Cause)
@@ -48,6 +50,7 @@ stops_also phase also each (TooLong file) h = each (TooLong file) h
 stops_also phase also each (Refused file r) h = each (Refused file r) h
 stops_also phase also each (Unbuilt file) h = each (Unbuilt file) h
 stops_also phase also each (Width step) h = each (Width step) h
+stops_also phase also each WeightTooWide h = each WeightTooWide h
 
 -- the stop of a writing, as it is told
 pub ends_sending : (output : Output) (stop : SendStop) (old new : Option (List ℕ)) → AddedSome old new output.bytes → MayEnd (HandsOn output) (cause_of_sending stop) old new

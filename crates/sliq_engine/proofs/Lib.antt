@@ -3,6 +3,8 @@ mod WalkLemmas
 mod Endings
 mod StepLemmas
 mod SimLemmas
+mod OutcomeLines
+mod ProbLemmas
 mod CommandLemmas
 mod TakingLemmas
 mod RunLemmas

@@ -4,7 +4,7 @@ use Rattle.std.specs.Fmt.{decimal}
 use Rattle.outside.specs.Outside.{Rose}
 use Rattle.outside.specs.Bytes.{Added, AddedSome}
 use Rattle.sliq_engine.specs.declared.cause.Cause.{Cause}
-use Rattle.sliq_engine.specs.declared.cause.Cause.TheVariants.{Done, BadWords, ReadFault, TooLong, Refused, Unbuilt, Width, WriteFault, OutOfMemory}
+use Rattle.sliq_engine.specs.declared.cause.Cause.TheVariants.{Done, BadWords, ReadFault, TooLong, Refused, Unbuilt, Width, WeightTooWide, WriteFault, OutOfMemory}
 use Rattle.sliq_engine.specs.Refusals.{reason_text}
 
 abbrev pub status_of : Cause → ℕ
@@ -15,6 +15,7 @@ status_of (TooLong _) = 4
 status_of (Refused _ _) = 4
 status_of (Unbuilt _) = 4
 status_of (Width _) = 5
+status_of WeightTooWide = 5
 status_of WriteFault = 6
 status_of OutOfMemory = 7
 
@@ -27,6 +28,7 @@ lines_of (TooLong file) = codes "sliq: file " ++ decimal file ++ codes " too lon
 lines_of (Refused file r) = codes "sliq: file " ++ decimal file ++ codes " statement " ++ decimal r.statement ++ codes ": " ++ reason_text r.why ++ codes "\n"
 lines_of (Unbuilt file) = codes "sliq: file " ++ decimal file ++ codes " not built yet\n"
 lines_of (Width step) = codes "sliq: width limit at step " ++ decimal step ++ codes "\n"
+lines_of WeightTooWide = codes "sliq: weight too wide\n"
 lines_of WriteFault = codes "sliq: write fault\n"
 lines_of OutOfMemory = codes "sliq: out of memory\n"
 

@@ -4,6 +4,7 @@ ghost use Rattle.sliq_engine.specs.Status.{status_of};
 
 use crate::output::SendStop;
 use amp_dense::Stop;
+use probabilities::WeighStop;
 use qasm_reader::Refusal;
 
 /// Why a run ended. Files are counted from 1.
@@ -23,6 +24,8 @@ pub enum Cause {
     Unbuilt { file: u8 },
     /// At this gate of the circuit, counted from 1, a coefficient was wider than 128 bits.
     Width { step: u32 },
+    /// The weight of all states has a part without √2 of 2^127 or more.
+    WeightTooWide,
     /// The output could not be written whole.
     WriteFault,
     /// Memory was wanted and refused.
@@ -45,7 +48,7 @@ impl Cause {
             Cause::BadWords => 2,
             Cause::ReadFault => 3,
             Cause::TooLong { .. } | Cause::Refused { .. } | Cause::Unbuilt { .. } => 4,
-            Cause::Width { .. } => 5,
+            Cause::Width { .. } | Cause::WeightTooWide => 5,
             Cause::WriteFault => 6,
             Cause::OutOfMemory => 7,
         }
@@ -62,6 +65,20 @@ impl From<Stop> for Cause {
         match stop {
             Stop::Width { gate } => Cause::Width { step: gate },
             Stop::Nodes { .. } | Stop::OutOfMemory => Cause::OutOfMemory,
+        }
+    }
+}
+
+impl From<WeighStop> for Cause {
+    ghost use Rattle.std.specs.Prelude.{◌≡◌};
+    ghost use Rattle.sliq_engine.specs.Private.{cause_of_weighing};
+
+    ghost from_gives = { λ stop cause. cause ≡ cause_of_weighing stop };
+
+    fn from(stop: WeighStop) -> Self {
+        match stop {
+            WeighStop::TooWide => Cause::WeightTooWide,
+            WeighStop::OutOfMemory => Cause::OutOfMemory,
         }
     }
 }

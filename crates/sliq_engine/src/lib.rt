@@ -4,8 +4,10 @@
 mod cause;
 mod laws;
 mod message;
+mod outcomes;
 mod output;
 mod perform;
+mod prob;
 mod reading;
 mod sim;
 mod simulation;
@@ -17,5 +19,7 @@ pub use cause::{Cause, Ended};
 pub use laws::{one_end, one_run, small_outputs, some_end};
 pub use top::{end, run};
 
+#[cfg(test)]
+mod prob_tests;
 #[cfg(test)]
 mod tests;

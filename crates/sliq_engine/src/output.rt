@@ -93,7 +93,8 @@ fn send_nonzero<A: Amplitudes, K: Sink>(
     Ok(states)
 }
 
-fn send_count<K: Sink>(
+/// The line of a count.
+pub fn send_count<K: Sink>(
     out: &mut K,
     waiting: &mut Buffered,
     word: Counted,

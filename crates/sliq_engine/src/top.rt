@@ -10,7 +10,7 @@ use crate::cause::{Cause, Ended};
 use crate::message::lines_of;
 use crate::perform::perform;
 use crate::taking::take_all;
-use crate::words::{Task, files_of};
+use crate::words::{files_of, task_of};
 use amp_dense::Rules;
 use outside::{Shelf, Sink, write_all};
 use std::alloc::Global;
@@ -71,14 +71,15 @@ fn carry_out<S: Shelf, K: Sink>(
     ensures counts { NoneFalls (S.faults shelf.old) (S.faults shelf.new) }
     ensures out_counts { K.faults out.old ≤ K.faults out.new }
 {
-    let Some(files) = files_of(words) else {
+    let Some(task) = task_of(words) else {
         return Cause::BadWords;
     };
+    let files = files_of(words);
     let texts = match take_all(alloc, shelf, files) {
         Ok(texts) => texts,
         Err(cause) => return cause,
     };
-    match perform(alloc, out, Task::Sim, &Rules::usual(), texts.as_slice()) {
+    match perform(alloc, out, task, &Rules::usual(), texts.as_slice()) {
         Ok(()) => Cause::Done,
         Err(cause) => cause,
     }
