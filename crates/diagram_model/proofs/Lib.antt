@@ -7,5 +7,6 @@ pub mod Heights
 pub mod Meanings
 pub mod Prefixes
 pub mod Reached
+pub mod Requests
 pub mod Sizes
 pub mod Values

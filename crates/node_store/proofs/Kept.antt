@@ -141,16 +141,25 @@ slotted_put d e n p s eo el puts big below new room count = record {
   most = omega (arith, s.most);
 }
 
+-- slots of the same nodes, order and limit
+pub slotted_kept : (d e : Diagram) → e.order ≡ d.order → e.limit ≡ d.limit → e.slots ≡ d.slots → IsSlotted d → IsSlotted e
+slotted_kept d e eo el es s = record {
+  order = rw eo s.order;
+  ground = rw es s.ground;
+  within = rw (es, eo) s.within;
+  unique = rw es s.unique;
+  few = rw (es, el) s.few;
+  most = rw el s.most;
+}
+
 -- slots whose table of one variable got room
 pub stored_same : (a b : Inside) (v : ℕ) (t u : TableValue) → IsStored a → b.order ≡ a.order → b.limit ≡ a.limit → b.nodes.slots ≡ a.nodes.slots → b.tables.items ≡ set a.tables.items v u → has a.order v ≡ true → t ≡ get_or a.tables.items v t → SameFound t u → IsStored b
 stored_same a b v t u s eo el es et below e same =
-    let build = λ (o : List ℕ) (l : ℕ) (m : List (Option Parts)). let r : Diagram = record { order = o; limit = l; slots = None ∷ None ∷ m } in r in
-    let view : (view_of b).diagram ≡ (view_of a).diagram = ap (λ o. build o b.limit b.nodes.slots) eo ∙ ap (λ l. build a.order l b.nodes.slots) el ∙ ap (λ m. build a.order a.limit m) es in
     let within = within_tables a v s below in
     let found_as : SameFound (table_at a.tables.items v) u = λ l g. same l g ∙ ap (λ r. found r l g) (table_is a v t s below e) in
     let indexed : AreIndexed (None ∷ None ∷ a.nodes.slots) (set a.tables.items v u) = indexed_same (None ∷ None ∷ a.nodes.slots) a.tables.items v u within found_as s.indexed in
     record {
-      slotted = rw view s.slotted;
+      slotted = slotted_kept (view_of a).diagram (view_of b).diagram eo el (ap (λ m. None ∷ None ∷ m) es) s.slotted;
       tables = ap length et ∙ length-set a.tables.items v u ∙ s.tables ∙ ap length (sym eo);
       indexed = rw (es, et) indexed;
     }

@@ -4,5 +4,6 @@ pub mod Counts
 pub mod Differing
 pub mod Kept
 pub mod Makes
+pub mod Requests
 pub mod Tables
 pub mod Walks

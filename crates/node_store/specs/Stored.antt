@@ -14,7 +14,7 @@ spare_in nodes table = cond (nat_le nodes.capacity 4000000000) (min table.spare 
 
 abbrev pub view_of : Inside → Slotted
 view_of a = record {
-  diagram = record { order = a.order; limit = a.limit; slots = None ∷ None ∷ a.nodes.slots };
+  diagram = record { order = a.order; limit = a.limit; slots = None ∷ None ∷ a.nodes.slots; made = a.made };
   spares = map (spare_in a.nodes) a.tables.items;
 }
 

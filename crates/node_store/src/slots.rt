@@ -5,7 +5,7 @@
 ghost use Rattle.std.specs.Prelude.{◌≡◌, ◌≢◌, ◌⊎◌, ℕ, ◌+◌, ◌<◌, ◌≤◌, OnOk, OnErr, IfOk, IfSome, IfNone, Some, None, [], ◌∷◌, true, length};
 ghost use Rattle.bit_lists.specs.Orders.{has};
 ghost use Rattle.diagram_model.specs.Nodes.{parts_of};
-ghost use Rattle.diagram_model.specs.Stores.{held, IsNew, PutsNode};
+ghost use Rattle.diagram_model.specs.Stores.{held, requested, IsNew, PutsNode};
 ghost use Rattle.node_store.specs.Slots.{IsSlotted, spare_of, parts};
 
 use bit_lists::{Order, OutOfMemory};
@@ -25,6 +25,7 @@ pub struct Slots {
     order: Order,
     limit: u32,
     nodes: Slab<Parts>,
+    made: u64,
     tables: Vec<NodeTable>,
 }
 
@@ -47,6 +48,7 @@ impl Slots {
         ensures empty { IfOk result (λ s. s.diagram.slots ≡ None ∷ None ∷ []) }
         ensures order { IfOk result (λ s. s.diagram.order ≡ order.now) }
         ensures limit { IfOk result (λ s. s.diagram.limit ≡ limit) }
+        ensures made { IfOk result (λ s. s.diagram.made ≡ 0) }
         ensures slotted { IfOk result (λ s. IsSlotted s.diagram) }
     {
         let mut tables = Vec::new(alloc);
@@ -58,6 +60,7 @@ impl Slots {
             order: *order,
             limit,
             nodes: Slab::new(alloc),
+            made: 0,
             tables,
         })
     }
@@ -106,6 +109,13 @@ impl Slots {
         self.tables[var as usize].find(low, high)
     }
 
+    /// Counts a request for a node.
+    pub fn count_request(&mut self)
+        ensures { self.new ≡ record { diagram = requested self.old.diagram; spares = self.old.spares } }
+    {
+        self.made = self.made.saturating_add(1);
+    }
+
     /// Makes room for more nodes of a variable.
     pub fn reserve(&mut self, var: u8, more: u32) -> Result<(), OutOfMemory>
         requires { has self.old.diagram.order var ≡ true }
@@ -132,6 +142,7 @@ impl Slots {
         ensures held { held self.new.diagram ≡ held self.old.diagram + 1 }
         ensures order { self.new.diagram.order ≡ self.old.diagram.order }
         ensures limit { self.new.diagram.limit ≡ self.old.diagram.limit }
+        ensures made { self.new.diagram.made ≡ self.old.diagram.made }
         ensures spares { (v : ℕ) → spare_of self.old v ≤ spare_of self.new v + 1 }
         ensures slotted { IsSlotted self.new.diagram }
         ensures number { 2 ≤ result }
@@ -155,6 +166,7 @@ impl Slots {
             order: self.order,
             limit: self.limit,
             nodes: self.nodes.clone()?,
+            made: self.made,
             tables,
         })
     }

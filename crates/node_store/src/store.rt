@@ -4,7 +4,7 @@ ghost use Rattle.std.specs.List.{range_with_len};
 ghost use Rattle.bit_lists.specs.Orders.{has, place_in};
 ghost use Rattle.diagram_model.specs.Functions.{bit};
 ghost use Rattle.diagram_model.specs.Nodes.{parts_of, value, IsLiveIn, IsProper};
-ghost use Rattle.diagram_model.specs.Stores.{held, IsLive, IsHeld, IsAbove, IsSound, Extends, KeepsFunctions, AddsOnly, IsChoice, NoRoom, IsNew, PutsNode, from};
+ghost use Rattle.diagram_model.specs.Stores.{held, IsLive, IsHeld, IsAbove, IsSound, Extends, KeepsFunctions, AddsOnly, IsChoice, NoRoom, IsNew, PutsNode, counted, requested, from};
 ghost use Rattle.node_store.specs.Makes.{StopMeans};
 ghost use Rattle.node_store.specs.Slots.{parts};
 ghost use Rattle.node_store.specs.declared.node.StoreStop.TheVariants as stops;
@@ -161,25 +161,16 @@ impl Store {
         ensures functions { KeepsFunctions self.old self.new }
         ensures extends { Extends self.old self.new }
         ensures only { IfOk result (λ n. AddsOnly self.old self.new n.0) }
-        ensures refused { OnErr result (self.new ≡ self.old) }
+        ensures refused { OnErr result (self.new ≡ requested self.old) }
+        ensures made { self.new.made ≡ counted self.old.made }
         ensures stop { IfErr result (StopMeans self.old var low.0 high.0) }
         ensures room { OnOk result (NoRoom self.old var low.0 high.0 → ⊥) }
         ensures steps { steps.new ≡ steps.old + 1 }
         ensures sound { IsSound self.new }
     {
         steps.tick();
-        let _ = &self.slots;
-        if low.0 == high.0 {
-            return Ok(low);
-        }
-        if let Some(node) = self.find(var, low.0, high.0) {
-            return Ok(Node(node));
-        }
-        let held = self.held();
-        if held == self.limit() {
-            return Err(StoreStop::Full { held });
-        }
-        self.add(var, low.0, high.0)
+        self.count_request();
+        self.node_of(var, low, high)
     }
 
     /// A store of the same nodes under the same numbers, with the same order and limit.
@@ -189,6 +180,14 @@ impl Store {
         Ok(Store {
             slots: self.slots.try_copy()?,
         })
+    }
+
+    /// The parts of a held node, or None for a number that no node has. One read of its slot.
+    pub fn parts_of(&self, n: Node) -> Option<Parts>
+        ensures parts { result ≡ parts_of self.now.slots n.0 }
+        ensures sound { IsSound self.now }
+    {
+        self.parts(n.0)
     }
 
     pub(crate) fn order_ref(&self) -> &Order
@@ -214,6 +213,45 @@ impl Store {
         self.slots.parts(n)
     }
 
+    /// Counts a request for a node.
+    fn count_request(&mut self)
+        ensures requested { self.new ≡ requested self.old }
+        ensures sound { IsSound self.new }
+    {
+        let _ = &self.slots;
+        self.slots.count_request();
+    }
+
+    /// The node of `make`, which has counted the request.
+    fn node_of(&mut self, var: u8, low: Node, high: Node) -> Result<Node, StoreStop>
+        requires var { has self.old.order var ≡ true }
+        requires low { IsAbove self.old var low.0 }
+        requires high { IsAbove self.old var high.0 }
+        ensures denotes { IfOk result (λ n. IsChoice self.new var low.0 high.0 n.0) }
+        ensures live { IfOk result (λ n. IsLiveIn self.new.slots (from self.old.order var) n.0) }
+        ensures functions { KeepsFunctions self.old self.new }
+        ensures extends { Extends self.old self.new }
+        ensures only { IfOk result (λ n. AddsOnly self.old self.new n.0) }
+        ensures made { self.new.made ≡ self.old.made }
+        ensures refused { OnErr result (self.new ≡ self.old) }
+        ensures stop { IfErr result (StopMeans self.old var low.0 high.0) }
+        ensures room { OnOk result (NoRoom self.old var low.0 high.0 → ⊥) }
+        ensures sound { IsSound self.new }
+    {
+        let _ = &self.slots;
+        if low.0 == high.0 {
+            return Ok(low);
+        }
+        if let Some(node) = self.find(var, low.0, high.0) {
+            return Ok(Node(node));
+        }
+        let held = self.held();
+        if held == self.limit() {
+            return Err(StoreStop::Full { held });
+        }
+        self.add(var, low.0, high.0)
+    }
+
     /// The held node of these parts.
     fn find(&self, var: u8, low: u32, high: u32) -> Option<u32>
         requires { has self.now.order var ≡ true }
@@ -231,6 +269,7 @@ impl Store {
         requires room { held self.old < self.old.limit }
         ensures puts { IfOk result (λ n. PutsNode self.old.slots self.new.slots n.0 (parts var low high)) }
         ensures rest { OnOk result ((self.new.order ≡ self.old.order) × (self.new.limit ≡ self.old.limit)) }
+        ensures made { self.new.made ≡ self.old.made }
         ensures sound { IsSound self.new }
         ensures refused { OnErr result (self.new ≡ self.old) }
         ensures stop { IfErr result (λ e. e ≡ stops.OutOfMemory) }
