@@ -4,6 +4,7 @@ pub mod Extend
 pub mod Fixing
 pub mod Growing
 pub mod Heights
+pub mod Held
 pub mod Meanings
 pub mod Prefixes
 pub mod Reached

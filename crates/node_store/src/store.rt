@@ -4,9 +4,9 @@ ghost use Rattle.std.specs.List.{range_with_len};
 ghost use Rattle.bit_lists.specs.Orders.{has, place_in};
 ghost use Rattle.diagram_model.specs.Functions.{bit};
 ghost use Rattle.diagram_model.specs.Nodes.{parts_of, value, IsLiveIn, IsProper};
-ghost use Rattle.diagram_model.specs.Stores.{held, IsLive, IsHeld, IsAbove, IsSound, Extends, KeepsFunctions, AddsOnly, IsChoice, NoRoom, IsNew, PutsNode, counted, requested, from};
-ghost use Rattle.node_store.specs.Makes.{StopMeans};
-ghost use Rattle.node_store.specs.Slots.{parts};
+ghost use Rattle.diagram_model.specs.Stores.{held, HasParts, IsLive, IsHeld, IsAbove, IsSound, Extends, KeepsFunctions, AddsOnly, IsChoice, NoRoom, IsNew, PutsNode, counted, requested, from};
+ghost use Rattle.node_store.specs.Makes.{FindsOrPuts, StopMeans};
+ghost use Rattle.node_store.specs.Slots.{AreNodesOf, IsNextHeld, IsLastHeld, nodes_of, parts};
 ghost use Rattle.node_store.specs.declared.node.StoreStop.TheVariants as stops;
 
 use crate::node::{Node, StoreStop};
@@ -85,7 +85,7 @@ impl Store {
     pub fn order(&self) -> Order
         ensures { result ≡ self.now.order }
     {
-        *self.slots.order()
+        self.slots.order()
     }
 
     /// The place of a variable in the order, in constant time.
@@ -95,7 +95,7 @@ impl Store {
         ensures within { result < length self.now.order }
         ensures there { slice_index self.now.order result ≡ var }
     {
-        self.slots.order().place_of(var)
+        self.slots.order_ref().place_of(var)
     }
 
     /// The variable of a node, or None for a constant.
@@ -182,6 +182,53 @@ impl Store {
         })
     }
 
+    /// The slots of the nodes, for calls that rearrange them. No node changes.
+    pub fn unseal(self) -> Slots
+        ensures { result.diagram ≡ self }
+    {
+        self.slots
+    }
+
+    /// The slots as a store.
+    pub(crate) fn over(slots: Slots) -> Store
+        requires { IsSound slots.diagram }
+        ensures { result ≡ slots.diagram }
+    {
+        Store { slots }
+    }
+
+    /// How many nodes of a variable are held. Constant time.
+    pub fn nodes_of(&self, var: u8) -> u32
+        requires { var < length self.now.order }
+        ensures { result ≡ nodes_of self.now var }
+    {
+        self.slots.nodes_of(var)
+    }
+
+    /// The numbers of the held nodes of a variable, each once, in no order. Takes the time of the
+    /// variable's table.
+    pub fn numbers_of(&self, var: u8) -> Result<Vec<u32>, OutOfMemory>
+        requires { var < length self.now.order }
+        ensures { IfOk result (λ ns. AreNodesOf self.now var ns.items) }
+    {
+        self.slots.numbers_of(var)
+    }
+
+    /// A number above that of each held node.
+    pub fn past(&self) -> u32
+        ensures { (n : ℕ) → HasParts self.now n → n < result }
+    {
+        self.slots.past()
+    }
+
+    /// The held node of least number after the given one, or of least number at all.
+    pub fn next_held(&self, after: Option<Node>) -> Option<Node>
+        ensures next { IfSome result (λ n. IsNextHeld self.now after n.0) }
+        ensures none { IfNone result (IsLastHeld self.now after) }
+    {
+        self.slots.next_held(after)
+    }
+
     /// The parts of a held node, or None for a number that no node has. One read of its slot.
     pub fn parts_of(&self, n: Node) -> Option<Parts>
         ensures parts { result ≡ parts_of self.now.slots n.0 }
@@ -195,7 +242,7 @@ impl Store {
         ensures sound { IsSound self.now }
     {
         let _ = &self.slots;
-        self.slots.order()
+        self.slots.order_ref()
     }
 
     pub(crate) fn alloc(&self) -> Global
@@ -210,7 +257,7 @@ impl Store {
         ensures sound { IsSound self.now }
     {
         let _ = &self.slots;
-        self.slots.parts(n)
+        self.slots.parts_of(Node(n))
     }
 
     /// Counts a request for a node.
@@ -242,32 +289,31 @@ impl Store {
         if low.0 == high.0 {
             return Ok(low);
         }
-        if let Some(node) = self.find(var, low.0, high.0) {
-            return Ok(Node(node));
-        }
         let held = self.held();
         if held == self.limit() {
+            if let Some(node) = self.find(var, low, high) {
+                return Ok(node);
+            }
             return Err(StoreStop::Full { held });
         }
-        self.add(var, low.0, high.0)
+        self.find_or_add(var, low, high)
     }
 
     /// The held node of these parts.
-    fn find(&self, var: u8, low: u32, high: u32) -> Option<u32>
+    fn find(&self, var: u8, low: Node, high: Node) -> Option<Node>
         requires { has self.now.order var ≡ true }
-        ensures found { IfSome result (λ n. parts_of self.now.slots n ≡ Some (parts var low high)) }
-        ensures absent { IfNone result (IsNew self.now (parts var low high)) }
+        ensures found { IfSome result (λ n. parts_of self.now.slots n.0 ≡ Some (parts var low.0 high.0)) }
+        ensures absent { IfNone result (IsNew self.now (parts var low.0 high.0)) }
     {
         self.slots.find(var, low, high)
     }
 
-    /// Adds a node of new parts.
-    fn add(&mut self, var: u8, low: u32, high: u32) -> Result<Node, StoreStop>
+    /// The held node of these parts, which is added where there is none.
+    fn find_or_add(&mut self, var: u8, low: Node, high: Node) -> Result<Node, StoreStop>
         requires var { has self.old.order var ≡ true }
-        requires proper { IsProper self.old.slots self.old.order (parts var low high) }
-        requires new { IsNew self.old (parts var low high) }
+        requires proper { IsProper self.old.slots self.old.order (parts var low.0 high.0) }
         requires room { held self.old < self.old.limit }
-        ensures puts { IfOk result (λ n. PutsNode self.old.slots self.new.slots n.0 (parts var low high)) }
+        ensures puts { IfOk result (λ n. FindsOrPuts self.old self.new (parts var low.0 high.0) n.0) }
         ensures rest { OnOk result ((self.new.order ≡ self.old.order) × (self.new.limit ≡ self.old.limit)) }
         ensures made { self.new.made ≡ self.old.made }
         ensures sound { IsSound self.new }
@@ -275,6 +321,7 @@ impl Store {
         ensures stop { IfErr result (λ e. e ≡ stops.OutOfMemory) }
     {
         self.slots.reserve(var, 1)?;
-        Ok(Node(self.slots.add(var, low, high)))
+        let node = self.slots.find_or_add(var, low, high)?;
+        Ok(node)
     }
 }

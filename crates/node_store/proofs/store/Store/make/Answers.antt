@@ -11,4 +11,3 @@ returns-clause-extends g c = extends_before c.args.self.now c.count_request.new.
 
 pub returns-clause-stop : goal.returns-clause-stop
 returns-clause-stop g c = stop_before c.args.self.now c.count_request.new.self c.args.var c.args.low.0 c.args.high.0 c.node_of.result c.count_request.ensures.requested c.node_of.ensures.stop
-
