@@ -32,9 +32,6 @@ extends_trans d e f p q = record {
   kept = λ n r is. q.kept n r (p.kept n r is);
 }
 
-pub follow_on : (d e : Diagram) (v n : ℕ) (b : Bool) → IsSound d → IsSound e → Extends d e → IsLive d n → follow e.slots v b n ≡ follow d.slots v b n
-follow_on d e v n b sd se ext live = sym (follow_keeps d.slots e.slots d.order n sd.diagram.ground se.diagram.ground ext.kept live v b)
-
 pub depth_on : (d e : Diagram) (n : ℕ) → IsSound d → IsSound e → Extends d e → IsLive d n → depth e n ≡ depth d n
 depth_on d e n sd se ext (inl h) = rw (se.diagram.ground n h) (sym (ap (depth_of d.order) (sd.diagram.ground n h)))
 depth_on d e n sd se ext (inr h) = ap (depth_of e.order) (ext.kept n h.parts h.is) ∙ ap (λ o. depth_of o (Some h.parts)) ext.order ∙ sym (ap (depth_of d.order) h.is)

@@ -9,13 +9,6 @@ use Rattle.diagram_model.specs.declared.parts.Parts.{Parts}
 use Rattle.diagram_model.proofs.Canonical.{some_same, follow-at, follow-other, after-head, after-tail}
 use Rattle.diagram_model.proofs.Values.{length-after, none_some}
 
-pub first_at : (vs : List ℕ) (v i : ℕ) → i < length vs → get_or vs i 0 ≡ v → ((k : ℕ) → k < i → get_or vs k 0 ≢ v) → length vs ≡ 1 + length (after vs v) + i
-first_at [] v i h at none = absurd (omega arith)
-first_at (u ∷ us) v zero h at none = omega (arith, ap length (after-head u v us at))
-first_at (u ∷ us) v (suc i) h at none =
-    let rest = first_at us v i (omega arith) at (λ k less. none (suc k) (omega arith)) in
-    omega (arith, rest, ap length (after-tail u v us (none 0 (omega arith))))
-
 pub follow_some : (s : List (Option Parts)) (v : ℕ) (b : Bool) (n : ℕ) (p : Parts) → parts_of s n ≡ Some p → p.var ≡ v → follow s v b n ≡ child b p
 follow_some s v b n p is at = follow-at s v n p is at b
 
@@ -117,8 +110,3 @@ top_is d f g h t sound lf lg lh is some =
         | inr c ↦ top_of_one d f g h h _ sound lf lg lh lh (omega (arith, is, c.0)) (omega (arith, c.1)) (omega (arith, c.2)) (omega arith) (ap (λ k. get_or d.order (length d.order - k) 0) (sym (is ∙ c.0))) (λ x. inr (inr x))
       ]
     ]
-
--- nodes of no depth are constants
-pub flat_small : (d : Diagram) (n : ℕ) → IsLive d n → depth d n ≡ 0 → n < 2
-flat_small d n (inl h) flat = h
-flat_small d n (inr h) flat = let deep : depth d n ≡ 1 + length (after d.order h.parts.var) = ap (depth_of d.order) h.is in absurd (omega arith)

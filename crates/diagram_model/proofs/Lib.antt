@@ -4,8 +4,10 @@ pub mod Extend
 pub mod Fixing
 pub mod Growing
 pub mod Heights
+pub mod Held
 pub mod Meanings
 pub mod Prefixes
 pub mod Reached
+pub mod Requests
 pub mod Sizes
 pub mod Values

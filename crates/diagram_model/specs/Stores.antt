@@ -1,15 +1,25 @@
 -- A store of nodes as contracts see it, and what may change in it.
-use Rattle.std.specs.Prelude.{◌≡◌, ◌≢◌, ◌⊎◌, ℕ, ◌+◌, ◌<◌, ◌≤◌, true, cond, List, ◌∷◌, length, Option, Some, None, is_some, IsSome, count_by}
+use Rattle.std.specs.Prelude.{◌≡◌, ◌≢◌, ◌⊎◌, ℕ, ◌+◌, ◌-◌, ◌^◌, ◌<◌, ◌≤◌, min, true, cond, List, ◌∷◌, length, Option, Some, None, is_some, IsSome, count_by}
 use Rattle.bit_lists.specs.Orders.{has, after}
 use Rattle.diagram_model.specs.declared.parts.Parts.{Parts}
 use Rattle.diagram_model.specs.Functions.{Assignment, Function}
 use Rattle.diagram_model.specs.Nodes.{parts_of, IsLiveIn, IsDiagram, value, denoted}
 
--- the order of the variables, top first, the most nodes that may be held, and the parts of each number
+-- the order of the variables, top first, the most nodes that may be held, the parts of each number, and
+-- how many requests for a node were answered or refused
 pub record Diagram : Type 0 where
   pub order : List ℕ
   pub limit : ℕ
   pub slots : List (Option Parts)
+  pub made : ℕ
+
+-- a count after one more, which stands still at the largest `u64`
+abbrev pub counted : ℕ → ℕ
+counted k = min (k + 1) (2 ^ 64 - 1)
+
+-- the store after one more request for a node, which was refused
+abbrev pub requested : Diagram → Diagram
+requested d = record { order = d.order; limit = d.limit; slots = d.slots; made = counted d.made }
 
 -- how many nodes are held
 abbrev pub held : Diagram → ℕ

@@ -2,7 +2,8 @@
 use Rattle.std.proofs.Common.{◌≡◌, ◌≢◌, ◌⊎◌, ℕ, ◌<◌, ◌≤◌, true, false, List, Option, Some, None, inl, inr, refl, sym, ◌∙◌, ap, arith}
 use Rattle.std.proofs.lemmas.Bool.{cases_eq}
 use Rattle.diagram_model.specs.Functions.{Function}
-use Rattle.diagram_model.specs.Stores.{Diagram, IsSound, Extends, AddsOnly}
+use Rattle.diagram_model.specs.Nodes.{parts_of}
+use Rattle.diagram_model.specs.Stores.{Diagram, IsSound, Extends, AddsOnly, requested}
 use Rattle.diagram_model.proofs.Growing.{extends_trans}
 use Rattle.memos.specs.Memo.{Triple, found}
 use Rattle.node_store.specs.declared.node.StoreStop.{StoreStop}
@@ -112,8 +113,14 @@ module _ (op : Operation) (d : Diagram) (at : Operands) (s : Split) (b : Begins 
     }
 
 -- the node of the whole is refused
-pub keeps_refused : (op : Operation) (at : Operands) (d k m : Diagram) (m0 m2 : List (Triple × ℕ)) → Keeps op at d k m0 m2 → m ≡ k → Keeps op at d m m0 m2
-keeps_refused op at d k m m0 m2 kept same = rw same kept
+pub keeps_refused : (op : Operation) (at : Operands) (d k m : Diagram) (m0 m2 : List (Triple × ℕ)) → Keeps op at d k m0 m2 → IsSound m → Extends k m → m ≡ requested k → Keeps op at d m m0 m2
+keeps_refused op at d k m m0 m2 kept sm ext same = record {
+  sound = sm;
+  extends = extends_trans d k m kept.extends ext;
+  results = results_on op k m m2 kept.sound sm ext kept.results;
+  higher = kept.higher;
+  made = makes_then d k m (IsPart op d at) kept.sound sm ext kept.made (λ n p is. inl (sym (ap (λ (e : Diagram). parts_of e.slots n) same) ∙ is));
+}
 
 -- the node of the whole is made
 pub keeps_node : (op : Operation) (at : Operands) (d k m : Diagram) (n : ℕ) (m0 m2 : List (Triple × ℕ)) → IsSound d → AreLive d at → Keeps op at d k m0 m2 → IsSound m → Extends k m → IsResult op m at n → AddsOnly k m n → Keeps op at d m m0 m2

@@ -5,7 +5,7 @@ use Rattle.bit_lists.specs.Orders.{has, after}
 use Rattle.diagram_model.specs.declared.parts.Parts.{Parts}
 use Rattle.diagram_model.specs.Functions.{Assignment, Function, fix, IsPrefixOf}
 use Rattle.diagram_model.specs.Nodes.{parts_of, value, IsLiveIn, IsDiagram}
-use Rattle.diagram_model.specs.Stores.{Diagram, IsLive, IsAbove, IsSound, Extends, AddsOnly, NoRoom, PutsNode, function_of}
+use Rattle.diagram_model.specs.Stores.{Diagram, IsLive, IsAbove, IsSound, Extends, AddsOnly, NoRoom, PutsNode, function_of, requested}
 use Rattle.diagram_model.proofs.Canonical.{same_node}
 use Rattle.diagram_model.proofs.Extend.{live-keeps, walk-keeps, keeps_put, diagram_put}
 use Rattle.diagram_model.proofs.Fixing.{ignores_higher}
@@ -130,13 +130,13 @@ at_point : (f g : Function) → f ≡ g → (x : Assignment) → f x ≡ g x
 at_point f g e x = ap (λ (w : Function). w x) e
 
 -- where the node over both parts has no room, the result is denoted by no live node
-pub whole_missing : (op : Operation) (d e m : Diagram) (at : Operands) (s : Split) (low high : ℕ) → IsStep op d e at s low high → m ≡ e → (r : StoreStop) → StopMeans e s.var low high r → StopIs m (IsPart op d at) r
+pub whole_missing : (op : Operation) (d e m : Diagram) (at : Operands) (s : Split) (low high : ℕ) → IsStep op d e at s low high → m ≡ requested e → (r : StoreStop) → StopMeans e s.var low high r → StopIs m (IsPart op d at) r
 unfolding function_of
 whole_missing op d e m at s low high t same OutOfMemory stop = stop
 whole_missing op d e m at s low high t same (Full h) stop =
-    let none : (n : ℕ) → IsLive e n → function_of e n ≢ result_of op d at = λ n live eq.
+    let none : (n : ℕ) → IsLive (requested e) n → function_of (requested e) n ≢ result_of op d at = λ n live eq.
     no_node e s.var low high n t.sound_e (var_on d e s.var t.extends t.split.var) (step_low op d e at s low high t) (step_high op d e at s low high t) stop.1 live (λ x.
     at_point (function_of e n) (result_of op d at) eq x ∙ sym (step_choice op d e at s low high t x)) in
-    let out : StopIs e (IsPart op d at) (Full h) =
+    let out : StopIs (requested e) (IsPart op d at) (Full h) =
     (stop.0, record { full = stop.1.full; missing = result_of op d at; is = prefix_self d.order (result_of op d at) (result_of op d at) refl; none = none }) in
     rw same out

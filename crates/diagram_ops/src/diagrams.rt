@@ -4,7 +4,7 @@ ghost use Rattle.std.specs.Borrow.{sem};
 ghost use Rattle.std.specs.List.{range_with_len};
 ghost use Rattle.computed_cache.specs.Entries.{value_at};
 ghost use Rattle.diagram_model.specs.Functions.{IsPrefixOf, fix};
-ghost use Rattle.diagram_model.specs.Stores.{held, IsLive, Extends, KeepsFunctions, AddsOnly, NoRoom, function_of};
+ghost use Rattle.diagram_model.specs.Stores.{held, IsLive, Extends, KeepsFunctions, AddsOnly, NoRoom, function_of, counted, requested};
 ghost use Rattle.diagram_ops.specs.Diagrams.{IsConsistent, IsHit, key_of, connective_of, variable_of};
 ghost use Rattle.diagram_ops.specs.Lending.{lends_store};
 ghost use Rattle.diagram_ops.specs.Made.{MakesOnly, StopIs};
@@ -108,7 +108,8 @@ impl Diagrams {
         ensures live { IfOk result (λ n. IsLive self.new.store n.0) }
         ensures denotes { IfOk result (λ n. function_of self.new.store n.0 ≡ variable_of var) }
         ensures only { IfOk result (λ n. AddsOnly self.old.store self.new.store n.0) }
-        ensures refused { OnErr result (self.new.store ≡ self.old.store) }
+        ensures refused { OnErr result (self.new.store ≡ requested self.old.store) }
+        ensures made { self.new.store.made ≡ counted self.old.store.made }
         ensures stop { IfErr result (StopMeans self.old.store var 0 1) }
         ensures room { OnOk result (NoRoom self.old.store var 0 1 → ⊥) }
         ensures extends { Extends self.old.store self.new.store }
@@ -127,7 +128,8 @@ impl Diagrams {
         ensures live { IfOk result (λ n. IsLive self.new.store n.0) }
         ensures denotes { IfOk result (λ n. function_of self.new.store n.0 ≡ variable_of var) }
         ensures only { IfOk result (λ n. AddsOnly self.old.store self.new.store n.0) }
-        ensures refused { OnErr result (self.new.store ≡ self.old.store) }
+        ensures refused { OnErr result (self.new.store ≡ requested self.old.store) }
+        ensures made { self.new.store.made ≡ counted self.old.store.made }
         ensures stop { IfErr result (StopMeans self.old.store var 0 1) }
         ensures room { OnOk result (NoRoom self.old.store var 0 1 → ⊥) }
         ensures extends { Extends self.old.store self.new.store }

@@ -8,3 +8,6 @@
 mod memo;
 
 pub use memo::Memo;
+
+#[cfg(test)]
+mod tests;

@@ -1,14 +1,18 @@
 //! The results of one call, by their three arguments.
 ghost use Rattle.std.specs.Prelude.{◌≡◌, ◌≢◌, ◌⊎◌, ℕ, ◌+◌, ◌-◌, ◌<◌, ◌≤◌, ◌*◌, ◌/◌, ◌^◌, OnOk, OnErr, IfOk, IfSome, map, length, None, Some, [], IsOk, slice_set, nat_lt};
-ghost use Rattle.memos.specs.Memo.{found, Puts, SameFound, ProbeMeans, LocateMeans, home, slots_of};
+ghost use Rattle.memos.specs.Memo.{found};
+ghost use Rattle.memos.specs.MemoPlaces.{home, slot_of, slots_of, Puts, SameFound};
 ghost use Rattle.tables.specs.Probing.{IsAbsent, IsProbed, AreApart, holds, entries_of, at};
+ghost use Rattle.tables.specs.Searching.{ProbeMeans, LocateMeans};
 
 use bit_lists::OutOfMemory;
 use std::alloc::{AllocError, Global};
 use std::marker::Model;
 use std::mem;
+use tables::{Probe, places_for};
 
-/// The most places of a short row: 80 KiB, which stay in a processor's second cache.
+/// The most places of a short row: 80 KiB, which stay in a processor's second cache. A row doubles as
+/// it grows, so it has exactly as many once it is wide.
 const SHORT_ROW: usize = 4096;
 
 /// A place, which counts only in the call of its stamp.
@@ -21,13 +25,12 @@ pub struct Place {
     pub stamp: u32,
 }
 
-/// Where a search ended.
-#[derive(Clone, Copy, Drop)]
-pub enum Probe {
-    Found { index: usize, node: u32 },
-    Vacant { index: usize },
-    Full,
-}
+/// Odd factors whose products spread the bits of the arguments.
+const F_FACTOR: u32 = 2654435769;
+
+const G_FACTOR: u32 = 2246822519;
+
+const H_FACTOR: u32 = 3266489917;
 
 /// Where the search for these arguments begins among n places.
 fn home_of(places: usize, f: u32, g: u32, h: u32) -> usize
@@ -36,15 +39,15 @@ fn home_of(places: usize, f: u32, g: u32, h: u32) -> usize
     ensures within { result ≤ places }
 {
     let mix = f
-        .wrapping_mul(2654435769)
-        .wrapping_add(g.wrapping_mul(2246822519))
-        .wrapping_add(h.wrapping_mul(3266489917));
+        .wrapping_mul(F_FACTOR)
+        .wrapping_add(g.wrapping_mul(G_FACTOR))
+        .wrapping_add(h.wrapping_mul(H_FACTOR));
     ((mix as u64 * places as u64) >> 32) as usize
 }
 
 /// Searches a part of the places.
 fn probe_part(places: &[Place], now: u32, f: u32, g: u32, h: u32) -> Probe
-    ensures { ProbeMeans now places.now (f, g, h) result }
+    ensures { ProbeMeans (slot_of now) places.now (f, g, h) result }
 {
     for (index, place) in places.iter().enumerate() {
         if place.stamp != now {
@@ -63,7 +66,7 @@ fn probe_part(places: &[Place], now: u32, f: u32, g: u32, h: u32) -> Probe
 /// Searches all places from one on.
 fn search_from(places: &[Place], start: usize, now: u32, f: u32, g: u32, h: u32) -> Probe
     requires { start ≤ length places.now }
-    ensures { LocateMeans now places.now start (f, g, h) result }
+    ensures { LocateMeans (slot_of now) places.now start (f, g, h) result }
 {
     match probe_part(&places[start..], now, f, g, h) {
         Probe::Full => probe_part(&places[..start], now, f, g, h),
@@ -80,7 +83,7 @@ fn search_from(places: &[Place], start: usize, now: u32, f: u32, g: u32, h: u32)
 /// Searches all places from the home of these arguments on.
 fn locate(places: &[Place], now: u32, f: u32, g: u32, h: u32) -> Probe
     requires { length places.now < 2 ^ 32 }
-    ensures { LocateMeans now places.now (home (length places.now) (f, g, h)) (f, g, h) result }
+    ensures { LocateMeans (slot_of now) places.now (home (length places.now) (f, g, h)) (f, g, h) result }
 {
     search_from(places, home_of(places.len(), f, g, h), now, f, g, h)
 }
@@ -95,7 +98,7 @@ struct Places {
 }
 
 impl Model for Places {
-    ghost use Rattle.memos.specs.Memo.{MemoValue};
+    ghost use Rattle.memos.specs.MemoPlaces.{MemoValue};
 
     ghost Value = { MemoValue };
 
@@ -106,18 +109,8 @@ impl Model for Places {
     ghost invariant = { IsStored };
 }
 
-/// How many places a memo takes for so many results.
-fn places_for(results: usize) -> Result<usize, AllocError>
-    ensures { IfOk result (λ n. (results + n / 4 ≤ n) × (n < 2 ^ 32)) }
-{
-    if results > 1073741824 {
-        return Err(AllocError);
-    }
-    let least = 2 * results;
-    Ok(least.max(8).next_power_of_two())
-}
-
 impl Places {
+    /// No place, and no memory.
     fn new(alloc: Global) -> Places
         ensures empty { result.entries ≡ [] }
     {
@@ -222,7 +215,8 @@ impl Places {
         ensures len { length self.new.entries ≡ length self.old.entries }
         ensures err { OnErr result (self.new ≡ self.old) }
     {
-        let places = places_for(self.places.len() + 1)?;
+        let room = self.places.len() - self.places.len() / 4;
+        let places = places_for(room + 1)?;
         let mut larger = Places::sized(self.alloc, places)?;
         larger.refill(&self.places, self.stamp);
         *self = larger;
@@ -238,6 +232,12 @@ impl Places {
     /// Whether these are as many places as a short row has at most.
     fn is_wide(&self) -> bool {
         self.places.len() >= SHORT_ROW
+    }
+
+    /// Whether the results are few enough for a short row.
+    fn fits_short_row(&self) -> bool {
+        let room = self.places.len() - self.places.len() / 4;
+        room - self.room <= SHORT_ROW - SHORT_ROW / 4
     }
 
     /// Forgets all results, and makes room for so many.
@@ -259,13 +259,15 @@ impl Places {
         ensures found { OnOk result (SameFound other.now.entries self.new.entries) }
         ensures len { OnOk result (length self.new.entries ≡ length other.now.entries) }
     {
-        self.empty_for(other.places.len() + 1)?;
+        let room = other.places.len() - other.places.len() / 4;
+        self.empty_for(room + 1)?;
         self.refill(&other.places, other.stamp);
         Ok(())
     }
 }
 
-/// A short row of places for small calls, and a long one that is used once a call outgrows it.
+/// A short row of places for small calls, and a long one that is used once a call outgrows it, and
+/// stays in use until a call has few results.
 #[derive(Drop)]
 struct Rows {
     current: Places,
@@ -274,7 +276,7 @@ struct Rows {
 }
 
 impl Model for Rows {
-    ghost use Rattle.memos.specs.Memo.{MemoValue};
+    ghost use Rattle.memos.specs.MemoPlaces.{MemoValue};
 
     ghost Value = { MemoValue };
 
@@ -292,10 +294,11 @@ impl Rows {
         }
     }
 
+    /// Forgets all results. Goes back to the short row where the last call had few.
     fn begin(&mut self)
         ensures empty { self.new.entries ≡ [] }
     {
-        if self.is_long {
+        if self.is_long && self.current.fits_short_row() {
             mem::swap(&mut self.current, &mut self.other);
             self.is_long = false;
         }
@@ -344,7 +347,7 @@ impl Rows {
 /// The results of one call, in memory that is kept from call to call.
 ///
 /// Each call takes expected constant time. `begin` touches no memory, whatever was kept before; and
-/// after a large call a small one works in a short row again, so that it stays in the processor's
+/// after large calls the second small one works in a short row again, which stays in the processor's
 /// cache.
 #[derive(Drop)]
 pub struct Memo {

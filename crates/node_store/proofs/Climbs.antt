@@ -21,9 +21,6 @@ depth-le d n sound (inr h) =
 pub max-le : (a b c n : ℕ) → a ≤ n → b ≤ n → c ≤ n → max (max a b) c ≤ n
 max-le a b c n ha hb hc = omega arith
 
-pub max-zero : (a b c : ℕ) → max (max a b) c ≡ 0 → (a ≡ 0) × (b ≡ 0) × (c ≡ 0)
-max-zero a b c h = (omega arith, omega arith, omega arith)
-
 -- a variable at a later place stands below
 pub below_by_place : (vs : List ℕ) (v u : ℕ) → has vs v ≡ true → has vs u ≡ true → place_in vs v < place_in vs u → has (after vs v) u ≡ true
 unfolding place_in

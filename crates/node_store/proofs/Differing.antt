@@ -12,7 +12,8 @@ use Rattle.diagram_model.proofs.Fixing.{value_follow, follow_above, above_live, 
 use Rattle.diagram_model.proofs.Prefixes.{Ignores}
 use Rattle.diagram_model.proofs.Values.{value-small, below-order}
 use Rattle.diagram_model.proofs.Sizes.{walk-agree}
-use Rattle.node_store.specs.Differs.{Differ, Coincide, DifferAt, CoincideAt, AllCoincide, is_pair, IsTrueSomewhere, IsFalseThroughout}
+use Rattle.node_store.specs.Differs.{Differ, Coincide, IsTrueSomewhere, IsFalseThroughout}
+use Rattle.node_store.specs.Pairs.{DifferAt, CoincideAt, AllCoincide, is_pair}
 
 -- a value that is fixed to b alone, or free, fits b
 fits_when : (o : Option Bool) (b : Bool) → ((c : Bool) → o ≡ Some c → b ≡ c) → fits o b ≡ true

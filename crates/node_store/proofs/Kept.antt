@@ -1,24 +1,29 @@
 -- What the fields of slots keep.
-use Rattle.std.proofs.Common.{◌≡◌, ℕ, zero, suc, ◌+◌, ◌-◌, ◌<◌, ◌≤◌, min, true, eqb, nat_le, List, [], ◌∷◌, ◌++◌, map, length, Option, Some, None, get_or, set, inl, inr, refl, sym, ◌∙◌, ap, arith, IfSome, IfNone, is_some, count_by, ◌&&◌}
+use Rattle.std.proofs.Common.{◌≡◌, Ok, Err, Result, OnErr, ◌⊎◌, ℕ, zero, suc, ◌+◌, ◌-◌, ◌<◌, ◌≤◌, min, true, false, eqb, nat_le, List, [], ◌∷◌, ◌++◌, map, length, Option, Some, None, get_or, set, inl, inr, refl, sym, ◌∙◌, ap, arith, get_or-set_other, get_or-set_same, IfSome, IfNone, is_some, count_by, ◌&&◌}
 use Rattle.std.specs.Map.{lookup}
-use Rattle.std.proofs.lemmas.Bool.{cases_eq, cases_lt, cases_Bool, cond-true, cond-false, leb-true, le-leb}
+use Rattle.std.proofs.lemmas.Bool.{cases_eq, cases_lt, cases_Bool, cond-true, cond-false, leb-true, le-leb, false≢true}
 use Rattle.std.proofs.lemmas.List.{length-set, get_or-map, length-map, get_or_default}
 use Rattle.slab.specs.Slab.{Slab, get, Updates, slab_len}
-use Rattle.bit_lists.specs.Orders.{has, IsOrder}
+use Rattle.bit_lists.specs.Orders.{has, IsOrder, exchanged}
 use Rattle.diagram_model.specs.declared.parts.Parts.{Parts}
 use Rattle.diagram_model.specs.Nodes.{parts_of}
-use Rattle.diagram_model.specs.Stores.{Diagram, PutsNode, IsNew, held}
+use Rattle.diagram_model.specs.Stores.{Diagram, PutsNode, IsNew, IsHeld, held}
+use Rattle.std.specs.Prelude.{IsSome}
 use Rattle.diagram_model.proofs.Values.{below-order}
 use Rattle.diagram_model.proofs.Extend.{here}
 use Rattle.tables.specs.NodeTable.{TableValue, found, Puts, SameFound}
 use Rattle.node_store.specs.declared.slots.Slots.TheInside.{Inside}
-use Rattle.node_store.specs.Slots.{IsSlotted, parts, spare_of}
-use Rattle.node_store.specs.Stored.{view_of, spare_in, table_at, AreIndexed, IsStored}
-use Rattle.node_store.proofs.Tables.{indexed_put, slab_puts, indexed_same, table_at-same, table_at-other}
+use Rattle.node_store.specs.Slots.{IsSlotted, Takes, Rewrites, parts, spare_of, is_of, nodes_of}
+use Rattle.node_store.specs.Stored.{view_of, spare_in, table_at, AreIndexed, AreBelow, AreTied, IsStored}
+use Rattle.node_store.proofs.Tables.{indexed_put, indexed_take, counted_set, slab_puts, slab_takes, slab_rewrites, get_past_two, indexed_same, table_at-same, table_at-other}
+use Rattle.node_store.proofs.Freed.{count_same, held_put, nodes_put, nodes_other, slotted_take, taken_put, left_was, nodes_le, count_cons, one_held}
 use Rattle.std.proofs.Math.ListN.{get_or-eq_default}
 
 pub within_tables : (a : Inside) (v : ℕ) → IsStored a → has a.order v ≡ true → v < length a.tables.items
 within_tables a v s h = omega (arith, below-order (length a.order) a.order v s.slotted.order.once h, s.tables)
+
+pub has_var : (a : Inside) (v : ℕ) → IsStored a → v < length a.order → has a.order v ≡ true
+has_var a v s lt = s.slotted.order.all v lt
 
 pub table_is : (a : Inside) (v : ℕ) (t : TableValue) → IsStored a → has a.order v ≡ true → t ≡ get_or a.tables.items v t → t ≡ table_at a.tables.items v
 table_is a v t s h e = e ∙ get_or_default a.tables.items v t (record { entries = []; spare = 0 }) (within_tables a v s h)
@@ -30,6 +35,12 @@ if_some (Some x) P f = f x refl
 if_none : {A : Type 0} (o : Option A) (P : Type 0) → (o ≡ None → P) → IfNone o P
 if_none None P f = f refl
 if_none (Some x) P f = tt
+
+pub of_some : {A : Type 0} (o : Option A) (x : A) (P : A → Type 0) → o ≡ Some x → IfSome o P → P x
+of_some o x P e h = rw e at h
+
+pub of_none_is : {A : Type 0} (o : Option A) (P : Type 0) → o ≡ None → IfNone o P → P
+of_none_is o P e h = rw e at h
 
 some_none : (n : ℕ) → Some n ≡ None → ⊥
 some_none n e = cc
@@ -141,44 +152,126 @@ slotted_put d e n p s eo el puts big below new room count = record {
   most = omega (arith, s.most);
 }
 
+-- slots of the same nodes, order and limit
+pub slotted_kept : (d e : Diagram) → e.order ≡ d.order → e.limit ≡ d.limit → e.slots ≡ d.slots → IsSlotted d → IsSlotted e
+slotted_kept d e eo el es s = record {
+  order = rw eo s.order;
+  ground = rw es s.ground;
+  within = rw (es, eo) s.within;
+  unique = rw es s.unique;
+  few = rw (es, el) s.few;
+  most = rw el s.most;
+}
+
 -- slots whose table of one variable got room
-pub stored_same : (a b : Inside) (v : ℕ) (t u : TableValue) → IsStored a → b.order ≡ a.order → b.limit ≡ a.limit → b.nodes.slots ≡ a.nodes.slots → b.tables.items ≡ set a.tables.items v u → has a.order v ≡ true → t ≡ get_or a.tables.items v t → SameFound t u → IsStored b
-stored_same a b v t u s eo el es et below e same =
-    let build = λ (o : List ℕ) (l : ℕ) (m : List (Option Parts)). let r : Diagram = record { order = o; limit = l; slots = None ∷ None ∷ m } in r in
-    let view : (view_of b).diagram ≡ (view_of a).diagram = ap (λ o. build o b.limit b.nodes.slots) eo ∙ ap (λ l. build a.order l b.nodes.slots) el ∙ ap (λ m. build a.order a.limit m) es in
+pub stored_same : (a b : Inside) (v : ℕ) (t u : TableValue) → IsStored a → b.order ≡ a.order → b.limit ≡ a.limit → b.past ≡ a.past → length u.entries ≡ length t.entries → b.nodes.slots ≡ a.nodes.slots → b.tables.items ≡ set a.tables.items v u → has a.order v ≡ true → t ≡ get_or a.tables.items v t → SameFound t u → IsStored b
+stored_same a b v t u s eo el ep len es et below e same =
     let within = within_tables a v s below in
     let found_as : SameFound (table_at a.tables.items v) u = λ l g. same l g ∙ ap (λ r. found r l g) (table_is a v t s below e) in
     let indexed : AreIndexed (None ∷ None ∷ a.nodes.slots) (set a.tables.items v u) = indexed_same (None ∷ None ∷ a.nodes.slots) a.tables.items v u within found_as s.indexed in
     record {
-      slotted = rw view s.slotted;
+      slotted = slotted_kept (view_of a).diagram (view_of b).diagram eo el (ap (λ m. None ∷ None ∷ m) es) s.slotted;
       tables = ap length et ∙ length-set a.tables.items v u ∙ s.tables ∙ ap length (sym eo);
       indexed = rw (es, et) indexed;
+      counted = rw (es, et) (counted_set (None ∷ None ∷ a.nodes.slots) (None ∷ None ∷ a.nodes.slots) a.tables.items v u within s.counted (λ w ne. refl)
+          (len ∙ ap (λ (q : TableValue). length q.entries) (table_is a v t s below e) ∙ s.counted v));
+      numbered = rw (es, ep) s.numbered;
     }
+
+below_put : (s t : List (Option Parts)) (n : ℕ) (p : Parts) (k l : ℕ) → PutsNode s t n p → AreBelow s k → k ≤ l → n < l → AreBelow t l
+below_put s t n p k l puts below le lt m q is =
+    elim (cases_eq m n) [
+      | inl e ↦ omega arith
+      | inr ne ↦ let h = below m q (sym (puts.others m ne) ∙ is) in omega arith
+    ]
+
+-- slots and tables once a node is added
+pub tied_put : (d e : Diagram) (ts : List TableValue) (r : TableValue) (n : ℕ) (p : Parts) (k l : ℕ) → AreTied d ts k → e.order ≡ d.order → e.limit ≡ d.limit → PutsNode d.slots e.slots n p → 2 ≤ n → has d.order p.var ≡ true → IsNew d p → held d < d.limit → Puts (table_at ts p.var) r p.low p.high (Some n) → length r.entries ≡ length (table_at ts p.var).entries + 1 → k ≤ l → n < l → AreTied e (set ts p.var r) l
+tied_put d e ts r n p k l s eo el puts big below new room table len le lt =
+    let within : p.var < length ts = omega (arith, below-order (length d.order) d.order p.var s.slotted.order.once below, s.tables) in
+    let count = held_put d.slots e.slots n p puts in
+    record {
+      slotted = slotted_put d e n p s.slotted eo el puts big below new room count;
+      tables = length-set ts p.var r ∙ s.tables ∙ ap length (sym eo);
+      indexed = indexed_put d.slots e.slots ts n p r within puts new table s.indexed;
+      counted = counted_set d.slots e.slots ts p.var r within s.counted (λ w ne. nodes_other w d.slots e.slots n p puts ne)
+          (omega (arith, len, s.counted p.var, nodes_put p.var d.slots e.slots n p puts refl));
+      numbered = below_put d.slots e.slots n p k l puts s.numbered le lt;
+    }
+
+-- slots and tables once a node is taken away
+pub tied_take : (d e : Diagram) (ts : List TableValue) (r : TableValue) (n : ℕ) (p : Parts) (k : ℕ) → AreTied d ts k → e.order ≡ d.order → e.limit ≡ d.limit → Takes d.slots e.slots n → parts_of d.slots n ≡ Some p → Puts (table_at ts p.var) r p.low p.high None → length r.entries + 1 ≡ length (table_at ts p.var).entries → AreTied e (set ts p.var r) k
+tied_take d e ts r n p k s eo el takes is table len =
+    let below = s.slotted.within n p is in
+    let within : p.var < length ts = omega (arith, below-order (length d.order) d.order p.var s.slotted.order.once below, s.tables) in
+    let back = taken_put d.slots e.slots n p takes is in
+    record {
+      slotted = slotted_take d e n p s.slotted eo el takes is;
+      tables = length-set ts p.var r ∙ s.tables ∙ ap length (sym eo);
+      indexed = indexed_take d.slots e.slots ts n p r within takes is s.slotted.unique table s.indexed;
+      counted = counted_set d.slots e.slots ts p.var r within s.counted (λ w ne. sym (nodes_other w e.slots d.slots n p back ne))
+          (omega (arith, len, s.counted p.var, nodes_put p.var e.slots d.slots n p back refl));
+      numbered = λ m q im. s.numbered m q (left_was d.slots e.slots n m q takes im);
+    }
+
+within_slots : (s : List (Option Parts)) (n : ℕ) (p : Parts) → parts_of s n ≡ Some p → n < length s
+within_slots [] n p is = cc
+within_slots (o ∷ s) zero p is = omega arith
+within_slots (o ∷ s) (suc n) p is = let h = within_slots s n p is in omega arith
+
+-- slots without one node
+abbrev pub without : Diagram → ℕ → Diagram
+without d n = record { order = d.order; limit = d.limit; slots = set d.slots n None; made = d.made }
+
+pub without_takes : (d : Diagram) (n : ℕ) (p : Parts) → parts_of d.slots n ≡ Some p → Takes d.slots (without d n).slots n
+without_takes d n p is = record {
+  gone = get_or-set_same d.slots n None None (within_slots d.slots n p is);
+  others = λ m ne. get_or-set_other d.slots n m None None ne;
+}
+
+pub without_put : (d : Diagram) (t : List (Option Parts)) (n : ℕ) (p q : Parts) → parts_of d.slots n ≡ Some p → Rewrites d.slots t n q → PutsNode (without d n).slots t n q
+without_put d t n p q is rewrites =
+    let takes = without_takes d n p is in
+    record { free = takes.gone; here = rewrites.here; others = λ m ne. rewrites.others m ne ∙ sym (takes.others m ne) }
+
+-- slots and tables once a node has other parts
+no_parts_here : (p : Parts) → None ≡ Some p → ⊥
+no_parts_here p e = cc
+
+pub tied_rewrite : (d e : Diagram) (ts : List TableValue) (r u : TableValue) (n : ℕ) (p q : Parts) (k : ℕ) → AreTied d ts k → e.order ≡ d.order → e.limit ≡ d.limit → parts_of d.slots n ≡ Some p → Rewrites d.slots e.slots n q → has d.order q.var ≡ true → IsNew d q → Puts (table_at ts p.var) r p.low p.high None → length r.entries + 1 ≡ length (table_at ts p.var).entries → Puts (table_at (set ts p.var r) q.var) u q.low q.high (Some n) → length u.entries ≡ length (table_at (set ts p.var r) q.var).entries + 1 → AreTied e (set (set ts p.var r) q.var u) k
+tied_rewrite d e ts r u n p q k s eo el is rewrites below new out out_len in_ in_len =
+    let m = without d n in
+    let takes = without_takes d n p is in
+    let gap = tied_take d m ts r n p k s refl refl takes is out out_len in
+    let puts = without_put d e.slots n p q is rewrites in
+    let big : 2 ≤ n = elim (cases_lt n 2) [ inl small ↦ absurd (no_parts_here p (sym (s.slotted.ground n small) ∙ is)) | inr more ↦ more ] in
+    let count = held_put m.slots d.slots n p (taken_put d.slots m.slots n p takes is) in
+    tied_put m e (set ts p.var r) u n q k k gap eo el puts big below
+    (λ i at. new i (left_was d.slots m.slots n i q takes at)) (omega (arith, count, s.slotted.few)) in_ in_len (omega arith) (s.numbered n p is)
+
+pub tied_of : (a : Inside) → IsStored a → AreTied (view_of a).diagram a.tables.items a.past
+tied_of a s = record { slotted = s.slotted; tables = s.tables; indexed = s.indexed; counted = s.counted; numbered = s.numbered }
+
+pub stored_of : (a : Inside) → AreTied (view_of a).diagram a.tables.items a.past → IsStored a
+stored_of a s = record { slotted = s.slotted; tables = s.tables; indexed = s.indexed; counted = s.counted; numbered = s.numbered }
 
 -- what slots are once the node k + 2 is added
 pub record Added (a b : Inside) (p : Parts) (n : ℕ) : Type 0 where
   pub stored : IsStored b
   pub puts : PutsNode (view_of a).diagram.slots (view_of b).diagram.slots n p
 
-pub added : (a b : Inside) (t u : TableValue) (k : ℕ) (p : Parts) → IsStored a → b.order ≡ a.order → b.limit ≡ a.limit → get a.nodes k ≡ None → Updates a.nodes b.nodes k (Some p) → slab_len b.nodes ≡ slab_len a.nodes + 1 → b.tables.items ≡ set a.tables.items p.var u → has a.order p.var ≡ true → IsNew (view_of a).diagram p → held (view_of a).diagram < a.limit → t ≡ get_or a.tables.items p.var t → Puts t u p.low p.high (Some (k + 2)) → Added a b p (k + 2)
-added a b t u k p s eo el vacant updates len et below new room e put =
+pub added : (a b : Inside) (t u : TableValue) (k : ℕ) (p : Parts) → IsStored a → b.order ≡ a.order → b.limit ≡ a.limit → a.past ≤ b.past → k + 2 < b.past → get a.nodes k ≡ None → Updates a.nodes b.nodes k (Some p) → length u.entries ≡ length t.entries + 1 → b.tables.items ≡ set a.tables.items p.var u → has a.order p.var ≡ true → IsNew (view_of a).diagram p → held (view_of a).diagram < a.limit → t ≡ get_or a.tables.items p.var t → Puts t u p.low p.high (Some (k + 2)) → Added a b p (k + 2)
+added a b t u k p s eo el ep num vacant updates len et below new room e put =
     let puts : PutsNode (view_of a).diagram.slots (view_of b).diagram.slots (k + 2) p = slab_puts a.nodes b.nodes k p vacant updates in
     let big : 2 ≤ k + 2 = omega arith in
-    let within = within_tables a p.var s below in
     let is = table_is a p.var t s below e in
     let puts_in : Puts (table_at a.tables.items p.var) u p.low p.high (Some (k + 2)) = record {
       here = put.here;
       others = λ l g other. put.others l g other ∙ ap (λ q. found q l g) is;
     } in
-    let indexed = indexed_put (view_of a).diagram.slots (view_of b).diagram.slots a.tables.items (k + 2) p u within puts new puts_in s.indexed in
-    record {
-      stored = record {
-        slotted = slotted_put (view_of a).diagram (view_of b).diagram (k + 2) p s.slotted eo el puts big below new room len;
-        tables = ap length et ∙ length-set a.tables.items p.var u ∙ s.tables ∙ ap length (sym eo);
-        indexed = rw et indexed;
-      };
-      puts = puts;
-    }
+    let tied = tied_put (view_of a).diagram (view_of b).diagram a.tables.items u (k + 2) p a.past b.past (tied_of a s) eo el puts big below new room puts_in
+    (len ∙ ap (λ (q : TableValue). length q.entries + 1) is) ep num in
+    record { stored = stored_of b (rw et tied); puts = puts }
 
 pub empty_push : (ts : List TableValue) (t : TableValue) → t.entries ≡ [] → ((v : ℕ) → (table_at ts v).entries ≡ []) → (v : ℕ) → (table_at (ts ++ t ∷ []) v).entries ≡ []
 empty_push [] t e h zero = e
@@ -211,6 +304,10 @@ empty_slotted d es order most =
       most = most;
     }
 
+none_of : (v : ℕ) → count_by (is_of v) (None ∷ None ∷ []) ≡ 0
+unfolding is_of
+none_of v = refl
+
 pub empty_stored : (a : Inside) → a.nodes.slots ≡ [] → IsOrder a.order → a.limit ≤ 16777216 → length a.tables.items ≡ length a.order → ((v : ℕ) → (table_at a.tables.items v).entries ≡ []) → IsStored a
 empty_stored a es order most et empty =
     record {
@@ -220,6 +317,8 @@ empty_stored a es order most et empty =
         right = λ h. absurd (nothing n (sym (ap (λ l. lookup (λ k. eqb low k.0 && eqb high k.1) l) (empty v)) ∙ h));
         whole = λ h. absurd (no_node n (parts v low high) h);
       });
+      counted = rw es (λ v. ap length (empty v) ∙ sym (none_of v));
+      numbered = rw es (λ n p is. absurd (no_node n p is));
     }
 
 -- room was made for nodes of a variable
@@ -243,3 +342,166 @@ pub table_room : (a : Inside) (v : ℕ) (t : TableValue) → IsStored a → has 
 table_room a v t s below e h =
     let r = spare_here a v s below h in
     omega (arith, r.1, ap (λ (u : TableValue). u.spare) (table_is a v t s below e))
+
+-- what holds anyway holds of a refusal
+pub on_err : {T E : Type 0} (r : Result T E) (A : Type 0) → A → OnErr r A
+on_err (Ok x) A a = tt
+on_err (Err e) A a = a
+
+-- a slab past the numbers of nodes has no room
+pub room_none : (m : Slab Parts) (ts : List TableValue) → nat_le m.capacity 4000000000 ≡ false → (w : ℕ) → room_at m ts w ≡ 0
+room_none m ts big w =
+    elim (cases_lt w (length ts)) [
+      | inl lt ↦ room_is m ts w lt ∙ cond-false (nat_le m.capacity 4000000000) (min (table_at ts w).spare (m.capacity - slab_len m)) 0 big
+      | inr past ↦ get_or-eq_default (map (spare_in m) ts) 0 (omega (arith, length-map ts (spare_in m)))
+    ]
+
+-- a slab that grew lowers no room, or it grew past the numbers of nodes
+pub grown_rooms : (m l : Slab Parts) (ts : List TableValue) → m.capacity ≤ l.capacity → l.slots ≡ m.slots → ((w : ℕ) → room_at m ts w ≤ room_at l ts w) ⊎ ((w : ℕ) → room_at l ts w ≡ 0)
+grown_rooms m l ts more same =
+    elim (cases_Bool (nat_le l.capacity 4000000000)) [
+      | inl e ↦ inl (λ w. elim (cases_lt w (length ts)) [
+        | inl lt ↦
+            let small : l.capacity ≤ 4000000000 = leb-true l.capacity 4000000000 e in
+            let le = spare_le m l (table_at ts w) (table_at ts w) 0 small more (same_count m l same) (omega arith) in
+            omega (arith, le, room_is m ts w lt, room_is l ts w lt)
+        | inr past ↦
+            let none : room_at m ts w ≡ 0 = get_or-eq_default (map (spare_in m) ts) 0 (omega (arith, length-map ts (spare_in m))) in
+            omega arith
+      ])
+      | inr e ↦ inr (room_none l ts e)
+    ]
+
+-- the rooms of one slab and its tables against those of others
+pub rooms_le : (m l : Slab Parts) (ts us : List TableValue) (j : ℕ) → l.capacity ≡ m.capacity → slab_len l ≤ slab_len m + j → length us ≡ length ts → ((w : ℕ) → (table_at ts w).spare ≤ (table_at us w).spare + j) → (w : ℕ) → room_at m ts w ≤ room_at l us w + j
+rooms_le m l ts us j cap len same table w =
+    elim (cases_lt w (length ts)) [
+      | inl lt ↦
+          let old = room_is m ts w lt in
+          let new = room_is l us w (omega arith) in
+          elim (cases_Bool (nat_le m.capacity 4000000000)) [
+            | inl e ↦
+                let small : m.capacity ≤ 4000000000 = leb-true m.capacity 4000000000 e in
+                let le = spare_le m l (table_at ts w) (table_at us w) j (omega arith) (omega arith) len (table w) in
+                omega arith
+            | inr e ↦
+                let none : spare_in m (table_at ts w) ≡ 0 = cond-false (nat_le m.capacity 4000000000) (min (table_at ts w).spare (m.capacity - slab_len m)) 0 e in
+                omega arith
+          ]
+      | inr past ↦
+          let none : room_at m ts w ≡ 0 = get_or-eq_default (map (spare_in m) ts) 0 (omega (arith, length-map ts (spare_in m))) in
+          omega arith
+    ]
+
+-- the spares of tables once one of them is another one
+pub spare_set : (ts : List TableValue) (v : ℕ) (t u : TableValue) (j : ℕ) → v < length ts → t ≡ get_or ts v t → t.spare ≤ u.spare + j → (w : ℕ) → (table_at ts w).spare ≤ (table_at (set ts v u) w).spare + j
+spare_set ts v t u j within e le w =
+    elim (cases_eq w v) [
+      | inl at ↦
+          let old : table_at ts w ≡ t = ap (table_at ts) at ∙ sym (e ∙ get_or_default ts v t (record { entries = []; spare = 0 }) within) in
+          let new : table_at (set ts v u) w ≡ u = ap (table_at (set ts v u)) at ∙ table_at-same ts v u within in
+          rw (old, new) le
+      | inr ne ↦
+          let same : table_at (set ts v u) w ≡ table_at ts w = table_at-other ts v w u ne in
+          rw same (omega arith)
+    ]
+
+-- the variable of a held node
+pub held_var : (a : Inside) (k : ℕ) (p : Parts) → IsStored a → get a.nodes k ≡ Some p → has a.order p.var ≡ true
+held_var a k p s there = s.slotted.within (k + 2) p (get_past_two a.nodes.slots k ∙ there)
+
+-- slots once the node k + 2 was taken away
+pub freed : (a b : Inside) (t u : TableValue) (k : ℕ) (p : Parts) → IsStored a → b.order ≡ a.order → b.limit ≡ a.limit → b.past ≡ a.past → get a.nodes k ≡ Some p → Updates a.nodes b.nodes k None → ((n : ℕ) → found t p.low p.high ≡ Some n → length u.entries + 1 ≡ length t.entries) → b.tables.items ≡ set a.tables.items p.var u → t ≡ get_or a.tables.items p.var t → Puts t u p.low p.high None → IsStored b
+freed a b t u k p s eo el ep there updates len et e put =
+    let d = (view_of a).diagram in
+    let is : parts_of d.slots (k + 2) ≡ Some p = get_past_two a.nodes.slots k ∙ there in
+    let below = s.slotted.within (k + 2) p is in
+    let at = table_is a p.var t s below e in
+    let takes = slab_takes a.nodes b.nodes k updates in
+    let was : found t p.low p.high ≡ Some (k + 2) = ap (λ q. found q p.low p.high) at ∙ (s.indexed p.var p.low p.high (k + 2)).whole is in
+    let out : Puts (table_at a.tables.items p.var) u p.low p.high None = record {
+      here = put.here;
+      others = λ l g other. put.others l g other ∙ ap (λ q. found q l g) at;
+    } in
+    stored_of b (rw (et, ep) (tied_take d (view_of b).diagram a.tables.items u (k + 2) p a.past (tied_of a s) eo el takes is out
+    (len (k + 2) was ∙ ap (λ (q : TableValue). length q.entries) at)))
+
+-- slots whose node k + 2 has other parts: the table of its old parts lost it, and the table of its
+-- new parts got it
+module _ (a : Inside) (t u w : TableValue) (k : ℕ) (old new : Parts) (s : IsStored a) (there : get a.nodes k ≡ Some old) (e : t ≡ get_or a.tables.items old.var t) (out : Puts t u old.low old.high None) (out_len : (n : ℕ) → found t old.low old.high ≡ Some n → length u.entries + 1 ≡ length t.entries) (below : has a.order new.var ≡ true) (fresh : IsNew (view_of a).diagram new) (f : w ≡ get_or (set a.tables.items old.var u) new.var w) where
+  held_is : parts_of (view_of a).diagram.slots (k + 2) ≡ Some old
+  held_is = get_past_two a.nodes.slots k ∙ there
+
+  at_old : t ≡ table_at a.tables.items old.var
+  at_old = table_is a old.var t s (held_var a k old s there) e
+
+  at_new : w ≡ table_at (set a.tables.items old.var u) new.var
+  at_new = f ∙ get_or_default (set a.tables.items old.var u) new.var w (record { entries = []; spare = 0 }) (omega (arith, within_tables a new.var s below, length-set a.tables.items old.var u))
+
+  out_puts : Puts (table_at a.tables.items old.var) u old.low old.high None
+  out_puts = record { here = out.here; others = λ l g other. out.others l g other ∙ ap (λ q. found q l g) at_old }
+
+  out_count : length u.entries + 1 ≡ length (table_at a.tables.items old.var).entries
+  out_count = out_len (k + 2) (ap (λ q. found q old.low old.high) at_old ∙ (s.indexed old.var old.low old.high (k + 2)).whole held_is) ∙ ap (λ (q : TableValue). length q.entries) at_old
+
+  gap : AreTied (without (view_of a).diagram (k + 2)) (set a.tables.items old.var u) a.past
+  gap = tied_take (view_of a).diagram (without (view_of a).diagram (k + 2)) a.tables.items u (k + 2) old a.past (tied_of a s) refl refl (without_takes (view_of a).diagram (k + 2) old held_is) held_is out_puts out_count
+
+  -- the table of the new parts does not find them
+  pub gap_none : found w new.low new.high ≡ None
+  gap_none = none_if (found w new.low new.high) (λ n is.
+      fresh n (left_was (view_of a).diagram.slots (without (view_of a).diagram (k + 2)).slots (k + 2) n new (without_takes (view_of a).diagram (k + 2) old held_is)
+      ((gap.indexed new.var new.low new.high n).right (ap (λ q. found q new.low new.high) (sym at_new) ∙ is))))
+
+  pub rewritten : (b : Inside) (x : TableValue) → b.order ≡ a.order → b.limit ≡ a.limit → b.past ≡ a.past → b.nodes.slots ≡ set a.nodes.slots k (Some new) → Puts w x new.low new.high (Some (k + 2)) → length x.entries ≡ length w.entries + 1 → b.tables.items ≡ set (set a.tables.items old.var u) new.var x → IsStored b
+  rewritten b x eo el ep es put len et =
+      let rewrites : Rewrites (view_of a).diagram.slots (view_of b).diagram.slots (k + 2) new = rw es (slab_rewrites a.nodes.slots k old new there) in
+      let put_in : Puts (table_at (set a.tables.items old.var u) new.var) x new.low new.high (Some (k + 2)) = record { here = put.here; others = λ l g other. put.others l g other ∙ ap (λ q. found q l g) at_new } in
+      stored_of b (rw (et, ep) (tied_rewrite (view_of a).diagram (view_of b).diagram a.tables.items u x (k + 2) old new a.past (tied_of a s) eo el held_is rewrites below fresh
+      out_puts out_count put_in (len ∙ ap (λ (q : TableValue). length q.entries + 1) at_new)))
+
+-- a node keeps its place in the count
+pub same_held : (l : List (Option Parts)) (k : ℕ) (old new : Parts) → parts_of l k ≡ Some old → count_by is_some (set l k (Some new)) ≡ count_by is_some l
+same_held [] k old new is = cc
+same_held (o ∷ l) zero old new is = rw is (omega (arith, count_cons is_some (Some old) l, count_cons is_some (Some new) l, one_held old, one_held new))
+same_held (o ∷ l) (suc k) old new is = omega (arith, same_held l k old new is, count_cons is_some o l, count_cons is_some o (set l k (Some new)))
+
+slotted_order : (d e : Diagram) → IsSlotted d → IsOrder e.order → length e.order ≡ length d.order → e.limit ≡ d.limit → e.slots ≡ d.slots → IsSlotted e
+slotted_order d e s order len el es = record {
+  order = order;
+  ground = rw es s.ground;
+  within = λ n p is. order.all p.var (let h = below-order (length d.order) d.order p.var s.order.once (s.within n p (rw es at is)) in omega arith);
+  unique = rw es s.unique;
+  few = rw (es, el) s.few;
+  most = rw el s.most;
+}
+
+-- slots in another order
+pub exchanged_stored : (a b : Inside) → IsStored a → IsOrder b.order → length b.order ≡ length a.order → b.limit ≡ a.limit → b.nodes.slots ≡ a.nodes.slots → b.tables.items ≡ a.tables.items → b.past ≡ a.past → IsStored b
+exchanged_stored a b s order len el es et ep = record {
+  slotted = slotted_order (view_of a).diagram (view_of b).diagram s.slotted order len el (ap (λ l. None ∷ None ∷ l) es);
+  tables = ap length et ∙ s.tables ∙ sym len;
+  indexed = rw (es, et) s.indexed;
+  counted = rw (es, et) s.counted;
+  numbered = rw (es, ep) s.numbered;
+}
+
+none_held : (o : Option Parts) → o ≡ None → IsSome o → ⊥
+none_held o e h = false≢true (rw e at h)
+
+pub held_big : (d : Diagram) (n : ℕ) → IsSlotted d → IsHeld d n → 2 ≤ n
+held_big d n s h = elim (cases_lt n 2) [ inl small ↦ absurd (none_held (parts_of d.slots n) (s.ground n small) h) | inr more ↦ more ]
+
+pub puts_at : (w x : TableValue) (l h m n : ℕ) → m ≡ n → Puts w x l h (Some m) → Puts w x l h (Some n)
+puts_at w x l h m n e p = rw (← e) p
+
+pub rewrites_at : (s t : List (Option Parts)) (m n : ℕ) (p q : Parts) → m ≡ n → p ≡ q → Rewrites s t m p → Rewrites s t n q
+rewrites_at s t m n p q e f r = rw (← e, ← f) r
+
+pub length-exchanged : (vs : List ℕ) (i : ℕ) → length (exchanged vs i) ≡ length vs
+length-exchanged [] zero = refl
+length-exchanged [] (suc i) = refl
+length-exchanged (u ∷ []) zero = refl
+length-exchanged (u ∷ []) (suc i) = ap suc (length-exchanged [] i)
+length-exchanged (u ∷ v ∷ vs) zero = refl
+length-exchanged (u ∷ v ∷ vs) (suc i) = ap suc (length-exchanged (v ∷ vs) i)

@@ -2,7 +2,13 @@ pub mod Climbs
 pub mod Copies
 pub mod Counts
 pub mod Differing
+pub mod Finding
+pub mod Freed
 pub mod Kept
 pub mod Makes
+pub mod Marking
+pub mod Numbers
+pub mod Requests
+pub mod Sweeping
 pub mod Tables
 pub mod Walks

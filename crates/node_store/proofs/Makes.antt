@@ -1,42 +1,70 @@
 -- What `make` keeps where it adds a node.
-use Rattle.std.proofs.Common.{◌≡◌, ◌≢◌, ℕ, true, length, inr, refl, Ok, Err, Result, IfOk, OnOk, OnErr}
+use Rattle.std.proofs.Common.{◌≡◌, ◌<◌, ℕ, true, length, Some, inl, inr, refl, sym, ◌∙◌, ap, Ok, Err, Result, IfOk, OnOk, OnErr}
+use Rattle.std.proofs.lemmas.Bool.{cases_eq}
 use Rattle.bit_lists.proofs.Variables.{has-here}
 use Rattle.bit_lists.specs.Orders.{has, after}
 use Rattle.diagram_model.specs.declared.parts.Parts.{Parts}
-use Rattle.diagram_model.specs.Nodes.{IsLiveIn, IsProper}
-use Rattle.diagram_model.specs.Stores.{Diagram, IsSound, IsAbove, KeepsFunctions, IsChoice, PutsNode, from}
+use Rattle.diagram_model.specs.Nodes.{parts_of, IsLiveIn, IsProper}
+use Rattle.diagram_model.specs.Stores.{Diagram, IsSound, KeepsFunctions, Extends, AddsOnly, IsChoice, from, held}
 use Rattle.diagram_model.proofs.Extend.{keeps_put}
-use Rattle.diagram_model.proofs.Growing.{functions_kept, functions_same}
+use Rattle.diagram_model.proofs.Growing.{functions_kept, sound_put}
 use Rattle.diagram_model.proofs.Values.{value-node}
 use Rattle.node_store.specs.declared.node.Node.{Node}
 use Rattle.node_store.specs.declared.node.StoreStop.{StoreStop}
+use Rattle.node_store.specs.Makes.{FindsOrPuts}
 use Rattle.node_store.specs.Slots.{parts}
+use Rattle.node_store.proofs.Freed.{held_put}
 
--- what is known of a store once a node of these parts was added, or not
+-- what is known of a store once a node of these parts was asked for
 pub record Tried (d e : Diagram) (p : Parts) (r : Result Node StoreStop) : Type 0 where
-  pub puts : IfOk r (λ n. PutsNode d.slots e.slots n.0 p)
+  pub puts : IfOk r (λ n. FindsOrPuts d e p n.0)
   pub rest : OnOk r ((e.order ≡ d.order) × (e.limit ≡ d.limit))
   pub refused : OnErr r (e ≡ d)
   pub before : IsSound d
   pub after : IsSound e
 
-functions_of : (d e : Diagram) → e ≡ d → KeepsFunctions d e
-functions_of d e same = rw same (functions_same d)
+-- the node has its parts
+pub found_here : (d e : Diagram) (p : Parts) (n : ℕ) → FindsOrPuts d e p n → parts_of e.slots n ≡ Some p
+found_here d e p n (inl h) = ap (λ (x : Diagram). parts_of x.slots n) h.1 ∙ h.0
+found_here d e p n (inr put) = put.puts.here
+
+same_extends : (d e : Diagram) → e ≡ d → Extends d e
+same_extends d e same = record {
+  order = ap (λ (x : Diagram). x.order) same;
+  limit = ap (λ (x : Diagram). x.limit) same;
+  kept = λ n p is. ap (λ (x : Diagram). parts_of x.slots n) same ∙ is;
+}
+
+found_extends : (d e : Diagram) (p : Parts) (n : ℕ) → e.order ≡ d.order → e.limit ≡ d.limit → FindsOrPuts d e p n → Extends d e
+found_extends d e p n eo el (inl h) = same_extends d e h.1
+found_extends d e p n eo el (inr put) = record { order = eo; limit = el; kept = keeps_put d.slots e.slots n p put.puts }
+
+found_only : (d e : Diagram) (p : Parts) (n : ℕ) → FindsOrPuts d e p n → AddsOnly d e n
+found_only d e p n (inl h) m q is = inl (ap (λ (x : Diagram). parts_of x.slots m) (sym h.1) ∙ is)
+found_only d e p n (inr put) m q is = elim (cases_eq m n) [ inl at ↦ inr at | inr ne ↦ inl (sym (put.puts.others m ne) ∙ is) ]
+
+pub tried_extends : (d e : Diagram) (p : Parts) (r : Result Node StoreStop) → Tried d e p r → Extends d e
+tried_extends d e p (Ok n) t = found_extends d e p n.0 t.rest.0 t.rest.1 t.puts
+tried_extends d e p (Err s) t = same_extends d e t.refused
 
 pub tried_functions : (d e : Diagram) (p : Parts) (r : Result Node StoreStop) → Tried d e p r → KeepsFunctions d e
-tried_functions d e p (Ok n) t = functions_kept d e t.before t.after (record { order = t.rest.0; limit = t.rest.1; kept = keeps_put d.slots e.slots n.0 p t.puts })
-tried_functions d e p (Err s) t = functions_of d e t.refused
+tried_functions d e p r t = functions_kept d e t.before t.after (tried_extends d e p r t)
+
+pub tried_only : (d e : Diagram) (p : Parts) (r : Result Node StoreStop) → Tried d e p r → IfOk r (λ n. AddsOnly d e n.0)
+tried_only d e p (Ok n) t = found_only d e p n.0 t.puts
+tried_only d e p (Err s) t = tt
 
 pub tried_live : (d e : Diagram) (p : Parts) (r : Result Node StoreStop) → Tried d e p r → IfOk r (λ n. IsLiveIn e.slots (from d.order p.var) n.0)
-tried_live d e p (Ok n) t = inr (record { parts = p; is = t.puts.here; below = has-here p.var (after d.order p.var) p.var refl })
+tried_live d e p (Ok n) t = inr (record { parts = p; is = found_here d e p n.0 t.puts; below = has-here p.var (after d.order p.var) p.var refl })
 tried_live d e p (Err s) t = tt
 
 pub tried_denotes : (d e : Diagram) (v l h : ℕ) (r : Result Node StoreStop) → Tried d e (parts v l h) r → has d.order v ≡ true → IfOk r (λ n. IsChoice e v l h n.0)
 tried_denotes d e v l h (Ok n) t below =
     let there : has e.order v ≡ true = rw t.rest.0 below in
-    λ x. value-node e.slots (length e.order) e.order n.0 (parts v l h) t.after.diagram t.puts.here there x
+    λ x. value-node e.slots (length e.order) e.order n.0 (parts v l h) t.after.diagram (found_here d e (parts v l h) n.0 t.puts) there x
 tried_denotes d e v l h (Err s) t below = tt
 
--- a node whose children stand below its variable and differ is proper
-pub proper_parts : (d : Diagram) (v l h : ℕ) → IsAbove d v l → IsAbove d v h → l ≢ h → IsProper d.slots d.order (parts v l h)
-proper_parts d v l h low high differ = record { low = low; high = high; differ = differ }
+-- a store stays sound where a node of proper parts is found or put
+pub found_sound : (d e : Diagram) (p : Parts) (n : ℕ) → IsSound d → e.order ≡ d.order → e.limit ≡ d.limit → has d.order p.var ≡ true → IsProper d.slots d.order p → held d < d.limit → FindsOrPuts d e p n → IsSound e
+found_sound d e p n s eo el below proper room (inl h) = rw h.1 s
+found_sound d e p n s eo el below proper room (inr put) = sound_put d e n p s eo el put.puts put.number below proper put.new room (held_put d.slots e.slots n p put.puts)

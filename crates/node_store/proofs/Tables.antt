@@ -1,5 +1,5 @@
 -- The tables find the nodes, before and after a node is added.
-use Rattle.std.proofs.Common.{◌≡◌, ◌≢◌, ◌⊎◌, ℕ, ◌+◌, ◌<◌, List, [], ◌∷◌, length, Option, Some, None, get_or, set, inl, inr, refl, sym, ◌∙◌, ap, arith, get_or-set_other, get_or-set_same, zero, suc}
+use Rattle.std.proofs.Common.{◌≡◌, ◌≢◌, ◌⊎◌, ℕ, ◌+◌, ◌<◌, List, [], ◌∷◌, length, Option, Some, None, get_or, set, inl, inr, refl, sym, ◌∙◌, ap, arith, count_by, get_or-set_other, get_or-set_same, zero, suc}
 use Rattle.std.proofs.lemmas.Bool.{cases_eq}
 use Rattle.slab.specs.Slab.{Slab, get, Updates}
 use Rattle.diagram_model.specs.declared.parts.Parts.{Parts}
@@ -7,8 +7,13 @@ use Rattle.diagram_model.specs.Nodes.{parts_of}
 use Rattle.diagram_model.specs.Stores.{PutsNode}
 use Rattle.diagram_model.proofs.Extend.{keeps_put, here}
 use Rattle.tables.specs.NodeTable.{TableValue, found, Puts, SameFound}
-use Rattle.node_store.specs.Slots.{parts}
-use Rattle.node_store.specs.Stored.{table_at, AreIndexed}
+use Rattle.diagram_model.specs.Nodes.{AreUnique}
+use Rattle.node_store.specs.Slots.{parts, Takes, Rewrites, is_of}
+use Rattle.node_store.specs.Stored.{table_at, AreIndexed, AreCounted}
+use Rattle.node_store.proofs.Freed.{left_was, not_gone}
+
+some_parts : (p q : Parts) → Some p ≡ Some q → p ≡ q
+some_parts p q e = cc
 
 some_number : (m n : ℕ) → Some m ≡ Some n → m ≡ n
 some_number m n e = cc
@@ -90,8 +95,47 @@ indexed_put s t ts n p r within puts new table indexed u l h m =
           }
     ]
 
+number_none : (n : ℕ) → None ≡ Some n → ⊥
+number_none n e = cc
+
+differs : (u l h : ℕ) (p : Parts) → (u ≢ p.var) ⊎ ((l ≢ p.low) ⊎ (h ≢ p.high)) → p ≢ parts u l h
+differs u l h p ne e =
+    let q = parts_parts u l h p e in
+    elim ne [ inl a ↦ a q.0 | inr a ↦ elim a [ inl b ↦ b q.1 | inr b ↦ b q.2 ] ]
+
+-- the tables once the node n with the parts p is taken out of its table
+pub indexed_take : (s t : List (Option Parts)) (ts : List TableValue) (n : ℕ) (p : Parts) (r : TableValue) → p.var < length ts → Takes s t n → parts_of s n ≡ Some p → AreUnique s → Puts (table_at ts p.var) r p.low p.high None → AreIndexed s ts → AreIndexed t (set ts p.var r)
+indexed_take s t ts n p r within takes is unique table indexed u l h m =
+    let at_here : found (table_at (set ts p.var r) p.var) p.low p.high ≡ None = ap (λ q. found q p.low p.high) (table_at-same ts p.var r within) ∙ table.here in
+    elim (cases_parts u l h p) [
+      | inl e ↦
+          let f : found (table_at (set ts p.var r) u) l h ≡ None = ap (λ (q : Parts). found (table_at (set ts p.var r) q.var) q.low q.high) (sym e) ∙ at_here in
+          record {
+            right = λ g. absurd (number_none m (sym f ∙ g));
+            whole = λ g. absurd (not_gone s t n m (parts u l h) takes g (unique m n p (left_was s t n m (parts u l h) takes g ∙ ap (λ q. Some q) (sym e)) is));
+          }
+      | inr ne ↦
+          let same : found (table_at (set ts p.var r) u) l h ≡ found (table_at ts u) l h = elsewhere ts p r within table u l h ne in
+          record {
+            right = λ g.
+                let old = (indexed u l h m).right (sym same ∙ g) in
+                takes.others m (λ at. differs u l h p ne (some_parts p (parts u l h) (sym is ∙ ap (parts_of s) (sym at) ∙ old))) ∙ old;
+            whole = λ g. same ∙ (indexed u l h m).whole (left_was s t n m (parts u l h) takes g);
+          }
+    ]
+
+-- the counts once one table is another one
+pub counted_set : (s t : List (Option Parts)) (ts : List TableValue) (v : ℕ) (r : TableValue) → v < length ts → AreCounted s ts → ((w : ℕ) → v ≢ w → count_by (is_of w) t ≡ count_by (is_of w) s) → length r.entries ≡ count_by (is_of v) t → AreCounted t (set ts v r)
+counted_set s t ts v r within counted others here w =
+    elim (cases_eq v w) [
+      | inl e ↦
+          ap (λ k. length (table_at (set ts v r) k).entries) (sym e) ∙ ap (λ (q : TableValue). length q.entries) (table_at-same ts v r within) ∙ here ∙ ap (λ k. count_by (is_of k) t) e
+      | inr ne ↦
+          ap (λ (q : TableValue). length q.entries) (table_at-other ts v w r (λ e. ne (sym e))) ∙ counted w ∙ sym (others w ne)
+    ]
+
 -- the slots of a slab, two places on
-get_past_two : (l : List (Option Parts)) (k : ℕ) → parts_of (None ∷ None ∷ l) (k + 2) ≡ get_or l k None
+pub get_past_two : (l : List (Option Parts)) (k : ℕ) → parts_of (None ∷ None ∷ l) (k + 2) ≡ get_or l k None
 get_past_two l k = let e : k + 2 ≡ suc (suc k) = omega arith in rw e refl
 
 slab_others : (old new : Slab Parts) (key : ℕ) (p : Parts) → Updates old new key (Some p) → (m : ℕ) → m ≢ key + 2 → parts_of (None ∷ None ∷ new.slots) m ≡ parts_of (None ∷ None ∷ old.slots) m
@@ -104,4 +148,32 @@ slab_puts old new key p vacant updates = record {
   free = get_past_two old.slots key ∙ vacant;
   here = get_past_two new.slots key ∙ updates.changed;
   others = slab_others old new key p updates;
+}
+
+slab_rest : (old new : Slab Parts) (key : ℕ) (o : Option Parts) → Updates old new key o → (m : ℕ) → m ≢ key + 2 → parts_of (None ∷ None ∷ new.slots) m ≡ parts_of (None ∷ None ∷ old.slots) m
+slab_rest old new key o updates zero ne = refl
+slab_rest old new key o updates (suc zero) ne = refl
+slab_rest old new key o updates (suc (suc m)) ne = updates.others m (λ e. ne (omega arith))
+
+pub slab_takes : (old new : Slab Parts) (key : ℕ) → Updates old new key None → Takes (None ∷ None ∷ old.slots) (None ∷ None ∷ new.slots) (key + 2)
+slab_takes old new key updates = record {
+  gone = get_past_two new.slots key ∙ updates.changed;
+  others = slab_rest old new key None updates;
+}
+
+set_rest : (l : List (Option Parts)) (key : ℕ) (o : Option Parts) (m : ℕ) → m ≢ key + 2 → parts_of (None ∷ None ∷ set l key o) m ≡ parts_of (None ∷ None ∷ l) m
+set_rest l key o zero ne = refl
+set_rest l key o (suc zero) ne = refl
+set_rest l key o (suc (suc m)) ne = get_or-set_other l key m o None (λ e. ne (omega arith))
+
+within_list : (s : List (Option Parts)) (n : ℕ) (p : Parts) → parts_of s n ≡ Some p → n < length s
+within_list [] n p is = cc
+within_list (o ∷ s) zero p is = omega arith
+within_list (o ∷ s) (suc n) p is = let h = within_list s n p is in omega arith
+
+-- the slots of a slab with another value at a key
+pub slab_rewrites : (l : List (Option Parts)) (key : ℕ) (old new : Parts) → parts_of l key ≡ Some old → Rewrites (None ∷ None ∷ l) (None ∷ None ∷ set l key (Some new)) (key + 2) new
+slab_rewrites l key old new is = record {
+  here = get_past_two (set l key (Some new)) key ∙ get_or-set_same l key (Some new) None (within_list l key old is);
+  others = set_rest l key (Some new);
 }

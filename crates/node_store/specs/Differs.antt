@@ -29,24 +29,3 @@ pub record IsTrueSomewhere (d : Diagram) (p : List (Option Bool)) (n : ℕ) : Ty
 abbrev pub IsFalseThroughout : Diagram → List (Option Bool) → ℕ → Type 0
 IsFalseThroughout d p n =
     (x : List Bool) → length x ≡ length d.order → agrees p x ≡ true → value d.slots d.order (bit x) n ≡ false
-
--- x has the fixed values of p
-abbrev pub Agrees : List (Option Bool) → Assignment → Type 0
-Agrees p x = (v : ℕ) (b : Bool) → slice_index_or p v None ≡ Some b → x v ≡ b
-
--- the two forms for assignments
-pub record DifferAt (d : Diagram) (p : List (Option Bool)) (f g : ℕ) : Type 0 where
-  pub at : Assignment
-  pub agreeing : Agrees p at
-  pub values : value d.slots d.order at f ≢ value d.slots d.order at g
-
-abbrev pub CoincideAt : Diagram → List (Option Bool) → ℕ → ℕ → Type 0
-CoincideAt d p f g = (x : Assignment) → Agrees p x → value d.slots d.order x f ≡ value d.slots d.order x g
-
--- whether the pair is in the set
-abbrev pub is_pair : List (ℕ × ℕ) → ℕ → ℕ → Bool
-is_pair ks f g = list_any (λ k. f == k.0 && g == k.1) ks
-
--- the pairs of a set coincide
-abbrev pub AllCoincide : Diagram → List (Option Bool) → List (ℕ × ℕ) → Type 0
-AllCoincide d p ks = (f g : ℕ) → is_pair ks f g ≡ true → CoincideAt d p f g

@@ -1,7 +1,8 @@
 //! Whether nodes differ where some variables are fixed.
 ghost use Rattle.std.specs.Prelude.{◌≡◌, ℕ, ◌≤◌, ◌<◌, ◌+◌, true, false, length, IfOk, OnOk};
 ghost use Rattle.diagram_model.specs.Stores.{IsLive, IsSound};
-ghost use Rattle.node_store.specs.Differs.{Differ, Coincide, DifferAt, CoincideAt, AllCoincide, IsTrueSomewhere, IsFalseThroughout};
+ghost use Rattle.node_store.specs.Differs.{Differ, Coincide, IsTrueSomewhere, IsFalseThroughout};
+ghost use Rattle.node_store.specs.Pairs.{DifferAt, CoincideAt, AllCoincide};
 
 use crate::node::{FALSE, Node};
 use crate::store::Store;

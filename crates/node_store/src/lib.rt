@@ -2,13 +2,16 @@
 #![tactic(auto)]
 
 mod differ;
+mod marks;
 mod node;
 mod reach;
 mod slots;
 mod store;
 mod walk;
 
+pub use marks::Reached;
 pub use node::{FALSE, Node, StoreStop, TRUE};
+pub use slots::Slots;
 pub use store::Store;
 
 #[cfg(test)]

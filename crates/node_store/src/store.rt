@@ -4,9 +4,9 @@ ghost use Rattle.std.specs.List.{range_with_len};
 ghost use Rattle.bit_lists.specs.Orders.{has, place_in};
 ghost use Rattle.diagram_model.specs.Functions.{bit};
 ghost use Rattle.diagram_model.specs.Nodes.{parts_of, value, IsLiveIn, IsProper};
-ghost use Rattle.diagram_model.specs.Stores.{held, IsLive, IsHeld, IsAbove, IsSound, Extends, KeepsFunctions, AddsOnly, IsChoice, NoRoom, IsNew, PutsNode, from};
-ghost use Rattle.node_store.specs.Makes.{StopMeans};
-ghost use Rattle.node_store.specs.Slots.{parts};
+ghost use Rattle.diagram_model.specs.Stores.{held, HasParts, IsLive, IsHeld, IsAbove, IsSound, Extends, KeepsFunctions, AddsOnly, IsChoice, NoRoom, IsNew, PutsNode, counted, requested, from};
+ghost use Rattle.node_store.specs.Makes.{FindsOrPuts, StopMeans};
+ghost use Rattle.node_store.specs.Slots.{AreNodesOf, IsNextHeld, IsLastHeld, nodes_of, parts};
 ghost use Rattle.node_store.specs.declared.node.StoreStop.TheVariants as stops;
 
 use crate::node::{Node, StoreStop};
@@ -85,7 +85,7 @@ impl Store {
     pub fn order(&self) -> Order
         ensures { result ≡ self.now.order }
     {
-        *self.slots.order()
+        self.slots.order()
     }
 
     /// The place of a variable in the order, in constant time.
@@ -95,7 +95,7 @@ impl Store {
         ensures within { result < length self.now.order }
         ensures there { slice_index self.now.order result ≡ var }
     {
-        self.slots.order().place_of(var)
+        self.slots.order_ref().place_of(var)
     }
 
     /// The variable of a node, or None for a constant.
@@ -161,25 +161,16 @@ impl Store {
         ensures functions { KeepsFunctions self.old self.new }
         ensures extends { Extends self.old self.new }
         ensures only { IfOk result (λ n. AddsOnly self.old self.new n.0) }
-        ensures refused { OnErr result (self.new ≡ self.old) }
+        ensures refused { OnErr result (self.new ≡ requested self.old) }
+        ensures made { self.new.made ≡ counted self.old.made }
         ensures stop { IfErr result (StopMeans self.old var low.0 high.0) }
         ensures room { OnOk result (NoRoom self.old var low.0 high.0 → ⊥) }
         ensures steps { steps.new ≡ steps.old + 1 }
         ensures sound { IsSound self.new }
     {
         steps.tick();
-        let _ = &self.slots;
-        if low.0 == high.0 {
-            return Ok(low);
-        }
-        if let Some(node) = self.find(var, low.0, high.0) {
-            return Ok(Node(node));
-        }
-        let held = self.held();
-        if held == self.limit() {
-            return Err(StoreStop::Full { held });
-        }
-        self.add(var, low.0, high.0)
+        self.count_request();
+        self.node_of(var, low, high)
     }
 
     /// A store of the same nodes under the same numbers, with the same order and limit.
@@ -191,12 +182,67 @@ impl Store {
         })
     }
 
+    /// The slots of the nodes, for calls that rearrange them. No node changes.
+    pub fn unseal(self) -> Slots
+        ensures { result.diagram ≡ self }
+    {
+        self.slots
+    }
+
+    /// The slots as a store.
+    pub(crate) fn over(slots: Slots) -> Store
+        requires { IsSound slots.diagram }
+        ensures { result ≡ slots.diagram }
+    {
+        Store { slots }
+    }
+
+    /// How many nodes of a variable are held. Constant time.
+    pub fn nodes_of(&self, var: u8) -> u32
+        requires { var < length self.now.order }
+        ensures { result ≡ nodes_of self.now var }
+    {
+        self.slots.nodes_of(var)
+    }
+
+    /// The numbers of the held nodes of a variable, each once, in no order. Takes the time of the
+    /// variable's table.
+    pub fn numbers_of(&self, var: u8) -> Result<Vec<u32>, OutOfMemory>
+        requires { var < length self.now.order }
+        ensures { IfOk result (λ ns. AreNodesOf self.now var ns.items) }
+    {
+        self.slots.numbers_of(var)
+    }
+
+    /// A number above that of each held node.
+    pub fn past(&self) -> u32
+        ensures { (n : ℕ) → HasParts self.now n → n < result }
+    {
+        self.slots.past()
+    }
+
+    /// The held node of least number after the given one, or of least number at all.
+    pub fn next_held(&self, after: Option<Node>) -> Option<Node>
+        ensures next { IfSome result (λ n. IsNextHeld self.now after n.0) }
+        ensures none { IfNone result (IsLastHeld self.now after) }
+    {
+        self.slots.next_held(after)
+    }
+
+    /// The parts of a held node, or None for a number that no node has. One read of its slot.
+    pub fn parts_of(&self, n: Node) -> Option<Parts>
+        ensures parts { result ≡ parts_of self.now.slots n.0 }
+        ensures sound { IsSound self.now }
+    {
+        self.parts(n.0)
+    }
+
     pub(crate) fn order_ref(&self) -> &Order
         ensures value { result.now ≡ self.now.order }
         ensures sound { IsSound self.now }
     {
         let _ = &self.slots;
-        self.slots.order()
+        self.slots.order_ref()
     }
 
     pub(crate) fn alloc(&self) -> Global
@@ -211,31 +257,71 @@ impl Store {
         ensures sound { IsSound self.now }
     {
         let _ = &self.slots;
-        self.slots.parts(n)
+        self.slots.parts_of(Node(n))
+    }
+
+    /// Counts a request for a node.
+    fn count_request(&mut self)
+        ensures requested { self.new ≡ requested self.old }
+        ensures sound { IsSound self.new }
+    {
+        let _ = &self.slots;
+        self.slots.count_request();
+    }
+
+    /// The node of `make`, which has counted the request.
+    fn node_of(&mut self, var: u8, low: Node, high: Node) -> Result<Node, StoreStop>
+        requires var { has self.old.order var ≡ true }
+        requires low { IsAbove self.old var low.0 }
+        requires high { IsAbove self.old var high.0 }
+        ensures denotes { IfOk result (λ n. IsChoice self.new var low.0 high.0 n.0) }
+        ensures live { IfOk result (λ n. IsLiveIn self.new.slots (from self.old.order var) n.0) }
+        ensures functions { KeepsFunctions self.old self.new }
+        ensures extends { Extends self.old self.new }
+        ensures only { IfOk result (λ n. AddsOnly self.old self.new n.0) }
+        ensures made { self.new.made ≡ self.old.made }
+        ensures refused { OnErr result (self.new ≡ self.old) }
+        ensures stop { IfErr result (StopMeans self.old var low.0 high.0) }
+        ensures room { OnOk result (NoRoom self.old var low.0 high.0 → ⊥) }
+        ensures sound { IsSound self.new }
+    {
+        let _ = &self.slots;
+        if low.0 == high.0 {
+            return Ok(low);
+        }
+        let held = self.held();
+        if held == self.limit() {
+            if let Some(node) = self.find(var, low, high) {
+                return Ok(node);
+            }
+            return Err(StoreStop::Full { held });
+        }
+        self.find_or_add(var, low, high)
     }
 
     /// The held node of these parts.
-    fn find(&self, var: u8, low: u32, high: u32) -> Option<u32>
+    fn find(&self, var: u8, low: Node, high: Node) -> Option<Node>
         requires { has self.now.order var ≡ true }
-        ensures found { IfSome result (λ n. parts_of self.now.slots n ≡ Some (parts var low high)) }
-        ensures absent { IfNone result (IsNew self.now (parts var low high)) }
+        ensures found { IfSome result (λ n. parts_of self.now.slots n.0 ≡ Some (parts var low.0 high.0)) }
+        ensures absent { IfNone result (IsNew self.now (parts var low.0 high.0)) }
     {
         self.slots.find(var, low, high)
     }
 
-    /// Adds a node of new parts.
-    fn add(&mut self, var: u8, low: u32, high: u32) -> Result<Node, StoreStop>
+    /// The held node of these parts, which is added where there is none.
+    fn find_or_add(&mut self, var: u8, low: Node, high: Node) -> Result<Node, StoreStop>
         requires var { has self.old.order var ≡ true }
-        requires proper { IsProper self.old.slots self.old.order (parts var low high) }
-        requires new { IsNew self.old (parts var low high) }
+        requires proper { IsProper self.old.slots self.old.order (parts var low.0 high.0) }
         requires room { held self.old < self.old.limit }
-        ensures puts { IfOk result (λ n. PutsNode self.old.slots self.new.slots n.0 (parts var low high)) }
+        ensures puts { IfOk result (λ n. FindsOrPuts self.old self.new (parts var low.0 high.0) n.0) }
         ensures rest { OnOk result ((self.new.order ≡ self.old.order) × (self.new.limit ≡ self.old.limit)) }
+        ensures made { self.new.made ≡ self.old.made }
         ensures sound { IsSound self.new }
         ensures refused { OnErr result (self.new ≡ self.old) }
         ensures stop { IfErr result (λ e. e ≡ stops.OutOfMemory) }
     {
         self.slots.reserve(var, 1)?;
-        Ok(Node(self.slots.add(var, low, high)))
+        let node = self.slots.find_or_add(var, low, high)?;
+        Ok(node)
     }
 }

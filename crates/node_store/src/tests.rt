@@ -3,8 +3,9 @@ ghost use Rattle.std.specs.Prelude.{◌≡◌, ◌≤◌, ◌<◌, ◌+◌, true
 ghost use Rattle.bit_lists.specs.Orders.{has};
 ghost use Rattle.diagram_model.specs.Stores.{IsLive, IsAbove};
 
-use crate::{FALSE, Node, Store, StoreStop, TRUE};
+use crate::{FALSE, Node, Reached, Slots, Store, StoreStop, TRUE};
 use bit_lists::{Bits, Order, Partial};
+use diagram_model::Parts;
 use std::alloc::Global;
 use std::marker::Brand;
 use std::process::Abort;
@@ -288,4 +289,113 @@ fn copied(rt: &impl Abort, store: &Store, nodes: [Node; 3]) {
 #[test]
 fn the_conjunction_of_two_variables(rt: HostRuntime) {
     conjunction::<Brand>(&rt, rt.alloc(), Blank::new(1));
+}
+
+/// The marks of the nodes that are reached from one.
+fn marks_of(rt: &impl Abort, store: &Store, n: Node) -> Reached {
+    live(rt, store, n);
+    match store.reached(&[n]) {
+        Ok(marks) => marks,
+        Err(_) => panic!(rt; "no memory"),
+    }
+}
+
+/// What is left of all functions of three variables by the marks of parity: one node of the first variable,
+/// and two of each other.
+fn parity_is_left(rt: &impl Abort, slots: &Slots) {
+    assert_eq!(rt; slots.held(), 5);
+    assert_eq!(rt; slots.order().len(), 3);
+    for (var, want) in [1u32, 2, 2].iter().enumerate() {
+        assert!(rt; (var as u8) < slots.order().len());
+        assert_eq!(rt; slots.nodes_of(var as u8), *want);
+        let Ok(numbers) = slots.numbers_of(var as u8) else {
+            panic!(rt; "no memory");
+        };
+        assert_eq!(rt; numbers.len(), *want as usize);
+        for number in &numbers {
+            let parts = slots.parts_of(Node(*number));
+            assert_eq!(rt; parts.map(|parts| parts.var), Some(var as u8));
+        }
+    }
+    let mut at = None;
+    let mut count = 0u32;
+    for _ in 0..10 {
+        if let Some(n) = slots.next_held(at) {
+            assert!(rt; n.0 < slots.past());
+            count = count.wrapping_add(1);
+            at = Some(n);
+        }
+    }
+    assert_eq!(rt; count, 5);
+}
+
+/// Adds a node of parts that are not held, and takes it away; then gives these parts to another node.
+fn rearranged(rt: &impl Abort, slots: &mut Slots, gone: Parts, root: Node) {
+    let (var, low, high) = (gone.var, Node(gone.low), Node(gone.high));
+    assert!(rt; var < slots.order().len());
+    assert!(rt; slots.reserve(var, 2).is_ok());
+    assert!(rt; slots.held() < slots.limit());
+    let None = slots.find(var, low, high) else {
+        panic!(rt; "a node that was taken away");
+    };
+    let n = slots.add(var, low, high);
+    assert_eq!(rt; slots.find(var, low, high), Some(n));
+    let Some(_) = slots.parts_of(n) else {
+        panic!(rt; "a held node");
+    };
+    slots.free(n);
+    let None = slots.find(var, low, high) else {
+        panic!(rt; "a node that was taken away");
+    };
+    let Some(was) = slots.parts_of(root) else {
+        panic!(rt; "a held node");
+    };
+    assert!(rt; slots.reserve(var, 1).is_ok());
+    slots.rewrite(root, var, low, high);
+    assert_eq!(rt; slots.parts_of(root), Some(gone));
+    assert_eq!(rt; slots.find(var, low, high), Some(root));
+    assert!(rt; was.var < slots.order().len());
+    assert_eq!(rt; slots.find(was.var, Node(was.low), Node(was.high)), None);
+    assert!(rt; slots.order().len() > 1);
+    slots.exchange(0);
+    assert_eq!(rt; variable(&slots.order(), 0), 1);
+}
+
+/// All functions of three variables, of which the nodes of parity are kept.
+fn upkept<L: Ledger>(rt: &impl Abort, alloc: Global, blank: Blank)
+    requires name { blank.name ≡ L.name }
+    requires parts { blank.parts ≡ L.parts }
+    requires some { 0 < blank.parts }
+{
+    let mut steps = Steps::<L>::new(blank);
+    let Ok(mut store) = Store::new(alloc, 3, 254) else {
+        panic!(rt; "no memory");
+    };
+    let mut parity = FALSE;
+    let mut majority = FALSE;
+    for table in 0..=255u8 {
+        let Ok(n) = table_node(rt, &mut store, table, &mut steps) else {
+            panic!(rt; "more nodes than functions");
+        };
+        if table == 150 {
+            parity = n;
+        }
+        if table == 232 {
+            majority = n;
+        }
+    }
+    let Some(gone) = store.parts_of(majority) else {
+        panic!(rt; "a held node");
+    };
+    let marks = marks_of(rt, &store, parity);
+    assert!(rt; marks.has(parity) && !marks.has(majority));
+    let mut slots = store.unseal().seal().unseal();
+    assert_eq!(rt; slots.keep_only(&marks), 249);
+    parity_is_left(rt, &slots);
+    rearranged(rt, &mut slots, gone, parity);
+}
+
+#[test]
+fn nodes_that_no_root_reaches_are_freed(rt: HostRuntime) {
+    upkept::<Brand>(&rt, rt.alloc(), Blank::new(1));
 }

@@ -8,7 +8,7 @@ use crate::store::Store;
 
 impl Store {
     /// The topmost of the variables of three nodes, or None where all are constants. Constant time.
-    pub fn top_of(&self, f: Node, g: Node, h: Node) -> Option<u8>
+    pub(crate) fn top_of(&self, f: Node, g: Node, h: Node) -> Option<u8>
         requires f { IsLive self.now f.0 }
         requires g { IsLive self.now g.0 }
         requires h { IsLive self.now h.0 }
@@ -26,7 +26,7 @@ impl Store {
 
     /// The node that is left of `n` once a variable is fixed: its child where it has the variable, and
     /// else the node itself.
-    pub fn follow(&self, var: u8, bit: bool, n: Node) -> Node
+    pub(crate) fn follow(&self, var: u8, bit: bool, n: Node) -> Node
         ensures { result.0 ≡ follow self.now.slots var bit n.0 }
     {
         match self.parts(n.0) {

@@ -173,6 +173,49 @@ probed_remove {K} home xs i p lt =
       low = λ a l u j is wrap to. still_used xs i j gone lt (gone_slot gone refl) (p.low a l u j (old a l u is) wrap to);
     }
 
+-- the place i, from which a key was taken, becomes free where the place after it is free
+pub probed_vacate : {K : Type 0} (home : K → ℕ) (xs : List (Slot K)) (i next : ℕ) → i < length xs → (i + 1 < length xs → next ≡ i + 1) → (length xs ≤ i + 1 → next ≡ 0) → at xs i ≡ gone → at xs next ≡ free → IsProbed home xs → IsProbed home (set xs i free)
+probed_vacate {K} home xs i next lt more last here vacant p =
+    let len = length-set xs i free in
+    let old = λ (a : ℕ) (l : K) (u : ℕ) (is : at (set xs i free) a ≡ holds l u).
+    (elim (entry_cases xs i a free (holds l u) lt is) as (λ z. (a ≢ i) × (at xs a ≡ holds l u)) [
+      | inl x ↦ absurd (let bad = x.1 in cc)
+      | inr x ↦ x
+    ]) in
+    let kept = λ (j : ℕ) (ne : j ≢ i) (n : at xs j ≢ free) (is : at (set xs i free) j ≡ free). n (sym (get_or-set_other xs i j free free ne) ∙ is) in
+    let after = λ (gt : i + 1 < length xs). ap (λ n. at xs n) (sym (more gt)) ∙ vacant in
+    record {
+      apart = λ a b l u w at_a at_b. p.apart a b l u w (old a l u at_a).1 (old b l w at_b).1;
+      up = λ a l u j is from to.
+          let o = old a l u is in
+          elim (cases_eq j i) [
+            | inl e ↦ λ z. p.up a l u (i + 1) o.1 (omega (arith, e, from)) (let ne = o.0 in omega (arith, e, to, ne)) (after (let ne = o.0 in let w = held_within xs a l u o.1 in omega (arith, e, to, ne, w)))
+            | inr ne ↦ kept j ne (p.up a l u j o.1 from to)
+          ];
+      high = λ a l u j is wrap from to.
+          let o = old a l u is in
+          elim (cases_eq j i) [
+            | inl e ↦ λ z. elim (cases_lt (i + 1) (length xs)) [
+              | inl gt ↦ p.high a l u (i + 1) o.1 wrap (omega (arith, e, from)) gt (after gt)
+              | inr le ↦ p.low a l u 0 o.1 wrap (omega arith) (ap (λ n. at xs n) (sym (last le)) ∙ vacant)
+            ]
+            | inr ne ↦ kept j ne (p.high a l u j o.1 wrap from (omega (arith, len, to)))
+          ];
+      low = λ a l u j is wrap to.
+          let o = old a l u is in
+          elim (cases_eq j i) [
+            | inl e ↦ λ z. p.low a l u (i + 1) o.1 wrap (let ne = o.0 in omega (arith, e, to, ne)) (after (let ne = o.0 in let w = held_within xs a l u o.1 in omega (arith, e, to, ne, w)))
+            | inr ne ↦ kept j ne (p.low a l u j o.1 wrap to)
+          ];
+    }
+
+-- a place without a key that becomes free changes no entry
+pub entries_vacate : {K : Type 0} (xs : List (Slot K)) (i : ℕ) → at xs i ≡ gone → entries_of (set xs i free) ≡ entries_of xs
+unfolding entries_of
+entries_vacate [] i here = refl
+entries_vacate (s ∷ xs) zero here = ap (λ t. entry_of t (entries_of xs)) (sym here)
+entries_vacate (s ∷ xs) (suc i) here = ap (λ es. entry_of s es) (entries_vacate xs i here)
+
 pub held_used : {K : Type 0} (xs : List (Slot K)) → length (entries_of xs) ≤ used_of xs
 unfolding entries_of used_of
 held_used [] = omega arith

@@ -1,3 +1,6 @@
+-- Contracts cite `NodeTable`; the other files say how the places of a table are kept.
+pub mod NodePlaces
 pub mod NodeTable
 pub mod Probing
+pub mod Searching
 pub mod Stored

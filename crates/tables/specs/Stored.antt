@@ -1,7 +1,8 @@
 -- How a table keeps its entries.
 use Rattle.std.specs.Prelude.{◌≡◌, ◌+◌, ◌<◌, ◌≤◌, ◌^◌, length}
 use Rattle.tables.specs.declared.node_table.NodeTable.TheInside.{Inside}
-use Rattle.tables.specs.NodeTable.{TableValue, slots_of, home}
+use Rattle.tables.specs.NodePlaces.{slots_of, home}
+use Rattle.tables.specs.NodeTable.{TableValue}
 use Rattle.tables.specs.Probing.{IsProbed, used_of, entries_of}
 
 abbrev pub view_of : Inside → TableValue

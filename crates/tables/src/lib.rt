@@ -5,5 +5,10 @@
 #![tactic(auto)]
 
 mod node_table;
+mod probe;
 
 pub use node_table::NodeTable;
+pub use probe::{Probe, places_for};
+
+#[cfg(test)]
+mod tests;

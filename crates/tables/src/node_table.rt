@@ -1,8 +1,11 @@
 //! The held nodes of one variable, by their children.
-ghost use Rattle.std.specs.Prelude.{◌≡◌, ◌≢◌, ◌⊎◌, ℕ, ◌+◌, ◌-◌, ◌<◌, ◌≤◌, ◌*◌, ◌/◌, ◌^◌, OnOk, OnErr, IfOk, IfSome, map, length, None, Some, [], IsOk, slice_set};
-ghost use Rattle.tables.specs.NodeTable.{found, found_in, Puts, SameFound, ProbeMeans, LocateMeans, home, slots_of};
-ghost use Rattle.tables.specs.Probing.{IsAbsent, IsProbed, AreApart, holds, entries_of, at};
+ghost use Rattle.std.specs.Prelude.{◌≡◌, ◌≢◌, ◌⊎◌, ℕ, ◌+◌, ◌-◌, ◌<◌, ◌≤◌, ◌*◌, ◌/◌, ◌^◌, OnOk, OnErr, IfOk, IfSome, IfNone, true, map, length, None, Some, [], IsOk, slice_set};
+ghost use Rattle.tables.specs.NodePlaces.{home, slot_of, slots_of};
+ghost use Rattle.tables.specs.NodeTable.{AreNodes, Children, found, found_in, Puts, SameFound};
+ghost use Rattle.tables.specs.Probing.{IsAbsent, IsProbed, AreApart, free, gone, holds, entries_of, at, used_of};
+ghost use Rattle.tables.specs.Searching.{ProbeMeans, LocateMeans};
 
+use crate::probe::{MOST_KEYS, Probe, places_for};
 use std::alloc::{AllocError, Global};
 use std::marker::Model;
 
@@ -14,13 +17,10 @@ pub enum Place {
     Held { low: u32, high: u32, node: u32 },
 }
 
-/// Where a search ended.
-#[derive(Clone, Copy, Drop)]
-pub enum Probe {
-    Found { index: usize, node: u32 },
-    Vacant { index: usize },
-    Full,
-}
+/// Odd factors whose products spread the bits of the children.
+const LOW_FACTOR: u32 = 2654435769;
+
+const HIGH_FACTOR: u32 = 2246822519;
 
 /// Where the search for these children begins among n places.
 fn home_of(places: usize, low: u32, high: u32) -> usize
@@ -29,14 +29,14 @@ fn home_of(places: usize, low: u32, high: u32) -> usize
     ensures within { result ≤ places }
 {
     let mix = low
-        .wrapping_mul(2654435769)
-        .wrapping_add(high.wrapping_mul(2246822519));
+        .wrapping_mul(LOW_FACTOR)
+        .wrapping_add(high.wrapping_mul(HIGH_FACTOR));
     ((mix as u64 * places as u64) >> 32) as usize
 }
 
 /// Searches a part of the places.
 fn probe_part(places: &[Place], low: u32, high: u32) -> Probe
-    ensures { ProbeMeans places.now low high result }
+    ensures { ProbeMeans slot_of places.now (low, high) result }
 {
     for (index, place) in places.iter().enumerate() {
         match *place {
@@ -80,7 +80,7 @@ impl Model for NodeTable {
 /// Searches all places from one on.
 fn search_from(places: &[Place], start: usize, low: u32, high: u32) -> Probe
     requires { start ≤ length places.now }
-    ensures { LocateMeans places.now start low high result }
+    ensures { LocateMeans slot_of places.now start (low, high) result }
 {
     match probe_part(&places[start..], low, high) {
         Probe::Full => probe_part(&places[..start], low, high),
@@ -97,23 +97,78 @@ fn search_from(places: &[Place], start: usize, low: u32, high: u32) -> Probe
 /// Searches all places from the home of these children on.
 fn locate(places: &[Place], low: u32, high: u32) -> Probe
     requires { length places.now < 2 ^ 32 }
-    ensures { LocateMeans places.now (home (length places.now) (low, high)) low high result }
+    ensures { LocateMeans slot_of places.now (home (length places.now) (low, high)) (low, high) result }
 {
     search_from(places, home_of(places.len(), low, high), low, high)
 }
 
-/// How many places a table takes for so many nodes.
-fn places_for(nodes: usize) -> Result<usize, AllocError>
-    ensures { IfOk result (λ n. (nodes + n / 4 ≤ n) × (n < 2 ^ 32)) }
+/// Whether a place is free.
+fn is_free(place: Place) -> bool
+    ensures { result ≡ true → slot_of place ≡ free }
 {
-    if nodes > 1073741824 {
-        return Err(AllocError);
+    match place {
+        Place::Free => true,
+        Place::Removed => false,
+        Place::Held { .. } => false,
     }
-    let least = 2 * nodes;
-    Ok(least.max(8).next_power_of_two())
+}
+
+/// Whether a node was taken from a place.
+fn is_removed(place: Place) -> bool
+    ensures { result ≡ true → slot_of place ≡ gone }
+{
+    match place {
+        Place::Removed => true,
+        Place::Free => false,
+        Place::Held { .. } => false,
+    }
+}
+
+/// The index after another in the circle of so many places.
+fn next_of(places: usize, index: usize) -> usize
+    requires { index < places }
+    ensures more { index + 1 < places → result ≡ index + 1 }
+    ensures last { places ≤ index + 1 → result ≡ 0 }
+    ensures within { result < places }
+{
+    if index + 1 < places { index + 1 } else { 0 }
+}
+
+/// Frees the removed place at an index where the place after it is free. How many were freed.
+fn free_one(places: &mut [Place], index: usize) -> usize
+    requires { index < length places.old }
+    ensures len { length places.new ≡ length places.old }
+    ensures one { result ≤ 1 }
+    ensures entries { entries_of (slots_of places.new) ≡ entries_of (slots_of places.old) }
+    ensures used { used_of (slots_of places.new) + result ≡ used_of (slots_of places.old) }
+    ensures probed { (start : Children → ℕ) → IsProbed start (slots_of places.old) → IsProbed start (slots_of places.new) }
+{
+    let next = next_of(places.len(), index);
+    if is_removed(places[index]) && is_free(places[next]) {
+        places[index] = Place::Free;
+        return 1;
+    }
+    0
+}
+
+/// Frees the removed places past which no search goes, the last one first. How many were freed.
+fn free_removed(places: &mut [Place]) -> usize
+    ensures len { length places.new ≡ length places.old }
+    ensures entries { entries_of (slots_of places.new) ≡ entries_of (slots_of places.old) }
+    ensures used { used_of (slots_of places.new) + result ≡ used_of (slots_of places.old) }
+    ensures probed { (start : Children → ℕ) → IsProbed start (slots_of places.old) → IsProbed start (slots_of places.new) }
+{
+    let mut freed = 0;
+    let mut index = places.len();
+    while index > 0 {
+        index -= 1;
+        freed += free_one(places, index);
+    }
+    freed
 }
 
 impl NodeTable {
+    /// No node. Takes no memory.
     pub fn new(alloc: Global) -> NodeTable
         ensures empty { result.entries ≡ [] }
     {
@@ -169,7 +224,7 @@ impl NodeTable {
         if more <= self.room {
             return Ok(());
         }
-        if more > 1073741824 {
+        if more > MOST_KEYS {
             return Err(AllocError);
         }
         let len = self.len;
@@ -178,15 +233,6 @@ impl NodeTable {
         larger.refill(&self.places);
         *self = larger;
         Ok(())
-    }
-
-    /// Takes all nodes away; the next `reserve` makes places anew.
-    pub fn clear(&mut self)
-        ensures empty { self.new.entries ≡ [] }
-    {
-        self.places.clear();
-        self.room = 0;
-        self.len = 0;
     }
 
     /// The node with these children.
@@ -208,21 +254,38 @@ impl NodeTable {
         ensures spare { self.new.spare + 1 ≡ self.old.spare }
         ensures len { length self.new.entries ≡ length self.old.entries + 1 }
     {
+        match self.find_or_add(low, high, node) {
+            None => (),
+            Some(_) => unreachable!(),
+        }
+    }
+
+    /// The node with these children; where there is none, `node` becomes it. One search.
+    pub fn find_or_add(&mut self, low: u32, high: u32, node: u32) -> Option<u32>
+        requires room { 0 < self.old.spare }
+        ensures result { result ≡ found self.old low high }
+        ensures found { IfSome result (λ n. self.new ≡ self.old) }
+        ensures puts { IfNone result (Puts self.old self.new low high (Some node)) }
+        ensures spare { IfNone result (self.new.spare + 1 ≡ self.old.spare) }
+        ensures len { IfNone result (length self.new.entries ≡ length self.old.entries + 1) }
+    {
         match locate(&self.places, low, high) {
+            Probe::Found { node, .. } => Some(node),
             Probe::Vacant { index } => {
                 self.places[index] = Place::Held { low, high, node };
                 self.room -= 1;
                 self.len += 1;
+                None
             }
-            Probe::Found { .. } => unreachable!(),
             Probe::Full => unreachable!(),
         }
     }
 
-    /// Takes a node away.
+    /// Takes a node away. Its place is not free for others before `refresh`.
     pub fn remove(&mut self, low: u32, high: u32)
         ensures puts { Puts self.old self.new low high None }
         ensures spare { self.new.spare ≡ self.old.spare }
+        ensures len { (n : ℕ) → found self.old low high ≡ Some n → length self.new.entries + 1 ≡ length self.old.entries }
     {
         match locate(&self.places, low, high) {
             Probe::Found { index, .. } => {
@@ -234,6 +297,16 @@ impl NodeTable {
         }
     }
 
+    /// Frees the places of nodes that were taken away, where no search goes past them. One pass over
+    /// the places: no node moves, and nothing is hashed.
+    pub fn refresh(&mut self)
+        ensures entries { self.new.entries ≡ self.old.entries }
+        ensures spare { self.old.spare ≤ self.new.spare }
+    {
+        let freed = free_removed(&mut self.places);
+        self.room += freed;
+    }
+
     /// How many nodes there are.
     pub fn len(&self) -> usize
         ensures { result ≡ length self.now.entries }
@@ -241,15 +314,37 @@ impl NodeTable {
         self.len
     }
 
-    /// A table of the same nodes.
-    pub fn try_copy(&self) -> Result<NodeTable, AllocError>
-        ensures { IfOk result (λ t. t ≡ self.now) }
+    /// The nodes, one for each entry, in no order. One pass over the places.
+    pub fn nodes(&self) -> Result<Vec<u32>, AllocError>
+        ensures { IfOk result (λ ns. AreNodes self.now ns.items) }
     {
-        Ok(NodeTable {
-            alloc: self.alloc,
-            places: self.places.clone()?,
-            room: self.room,
-            len: self.len,
-        })
+        let mut nodes = Vec::with_capacity(self.alloc, self.len)?;
+        for place in &self.places {
+            match *place {
+                Place::Held { node, .. } => nodes.push(node)?,
+                Place::Removed => (),
+                Place::Free => (),
+            }
+        }
+        Ok(nodes)
+    }
+
+    /// A table of the same nodes, in as many places as they take.
+    pub fn try_copy(&self) -> Result<NodeTable, AllocError>
+        ensures found { IfOk result (λ t. SameFound self.now t) }
+        ensures len { IfOk result (λ t. length t.entries ≡ length self.now.entries) }
+    {
+        let places = places_for(self.len)?;
+        if self.places.len() <= places {
+            return Ok(NodeTable {
+                alloc: self.alloc,
+                places: self.places.clone()?,
+                room: self.room,
+                len: self.len,
+            });
+        }
+        let mut copy = NodeTable::sized(self.alloc, places)?;
+        copy.refill(&self.places);
+        Ok(copy)
     }
 }

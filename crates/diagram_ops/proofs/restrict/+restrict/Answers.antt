@@ -206,7 +206,7 @@ returns-in_err-node-clause-keeps g t c =
     let high = c.in_ok-high.high.0 in
     let step : IsStep op d k at s low high = both_made op d at s b e m0 m1 c.restrict.ensures.keeps k m2 low high c.restrict-2.ensures.keeps c.in_ok-low.ensures.result c.in_ok-high.ensures.result in
     let kept : Keeps op at d k m0 m2 = keeps_both op d at s b e m0 m1 c.restrict.ensures.keeps k m2 c.restrict-2.ensures.keeps in
-    keeps_refused op at d k c.make.new.self m0 m2 kept c.in_err-node.ensures.refused
+    keeps_refused op at d k c.make.new.self m0 m2 kept c.make.ensures.sound c.make.ensures.extends c.in_err-node.ensures.refused
 
 pub returns-in_err-node-clause-stop : goal.returns-in_err-node-clause-stop
 returns-in_err-node-clause-stop g t c =

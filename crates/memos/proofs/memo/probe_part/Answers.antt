@@ -1,7 +1,8 @@
 use Rattle.std.proofs.Common.{◌∙◌, inl, inr, refl, sym, get_or, arith}
 use Rattle.memos.specs.declared.memo.Place.{Place}
-use Rattle.memos.specs.Memo.{Triple}
-use Rattle.memos.proofs.Memos.{at_within, slot_past, slot_here, passed_more, passes}
+use Rattle.memos.specs.MemoPlaces.{slot_of}
+use Rattle.tables.proofs.Searching.{passed_more}
+use Rattle.memos.proofs.Memos.{at_within, slot_past, passes, blank, blank_free}
 use Rattle.memos.proofs.memo.probe_part.Goals as goal
 use Rattle.memos.proofs.memo.probe_part.Goals.{else-place-f-via-then-place-f+then-place-g+else-place-h, else-place-f-via-then-place-f+else-place-g, else-place-f-via-else-place-f}
 
@@ -20,7 +21,7 @@ loop-index-preserved c =
     let i = c.loop-index.index in
     let lt = c.loop-index-test.true in
     let stamp = c.if-place-now.false in
-    passed_more c.args.now ps (c.args.f, c.args.g, c.args.h) i c.loop-index.invariant (elim c.else-place-f.branch [
+    passed_more (slot_of c.args.now) (blank c.args.now) (blank_free c.args.now) ps (c.args.f, c.args.g, c.args.h) i c.loop-index.invariant (elim c.else-place-f.branch [
       | else-place-f-via-then-place-f+then-place-g+else-place-h w ↦ passes c.args.now ps c.args.f c.args.g c.args.h i z lt stamp (inr (inr (λ e. w.if-place-h.false (sym e))))
       | else-place-f-via-then-place-f+else-place-g w ↦ passes c.args.now ps c.args.f c.args.g c.args.h i z lt stamp (inr (inl (λ e. w.if-place-g.false (sym e))))
       | else-place-f-via-else-place-f w ↦ passes c.args.now ps c.args.f c.args.g c.args.h i z lt stamp (inl (λ e. w.if-place-f.false (sym e)))

@@ -1,5 +1,5 @@
 use Rattle.tables.specs.Probing.{ArePassed}
-use Rattle.memos.specs.Memo.{slots_of}
+use Rattle.memos.specs.MemoPlaces.{slots_of}
 use Rattle.memos.proofs.memo.probe_part.Given as goal
 
 abbrev pub invariant-loop-index : goal.invariant-loop-index

@@ -1,5 +1,5 @@
 use Rattle.tables.specs.Probing.{ArePassed}
-use Rattle.tables.specs.NodeTable.{slots_of}
+use Rattle.tables.specs.NodePlaces.{slots_of}
 use Rattle.tables.proofs.node_table.probe_part.Given as goal
 
 abbrev pub invariant-loop-index : goal.invariant-loop-index

@@ -1,6 +1,7 @@
 use Rattle.std.proofs.Common.{◌≡◌, ◌<◌, ◌^◌, ℕ, refl, sym, [], length, arith, List, ap, ◌+◌}
 use Rattle.tables.specs.Probing.{IsProbed, at, free, holds, entries_of, used_of}
-use Rattle.memos.specs.Memo.{Triple, slots_of, home}
+use Rattle.memos.specs.Memo.{Triple}
+use Rattle.memos.specs.MemoPlaces.{slots_of, home}
 use Rattle.tables.proofs.Probing.{probed_free, used_free, entries_free}
 use Rattle.memos.proofs.memo.Places.new.Goals as goal
 

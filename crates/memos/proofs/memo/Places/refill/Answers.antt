@@ -1,9 +1,11 @@
 use Rattle.std.proofs.Common.{◌≡◌, ◌<◌, ◌≤◌, ℕ, None, refl, sym, [], length, arith, ap, ◌+◌, ◌∙◌, take, get_or}
 use Rattle.tables.specs.Probing.{entries_of, holds, free}
-use Rattle.memos.specs.Memo.{Triple, slots_of, slot_of, found}
+use Rattle.memos.specs.Memo.{Triple, found}
+use Rattle.memos.specs.MemoPlaces.{slots_of, slot_of}
 use Rattle.memos.specs.declared.memo.Place.{Place}
 use Rattle.tables.proofs.Probing.{held}
-use Rattle.memos.proofs.Memos.{first_new, count_more, count_take, copies_held, copies_free, slot_here, slot_past}
+use Rattle.tables.proofs.Copying.{first_new, count_take}
+use Rattle.memos.proofs.Memos.{is_key, key_test, blank, blank_free, within, count_more, copies_held, copies_free, slot_here, slot_past}
 use Rattle.memos.proofs.memo.Places.refill.Goals as goal
 use Rattle.memos.proofs.memo.Places.refill.Goals.{then-place-stamp, else-place-stamp}
 
@@ -23,7 +25,7 @@ add-requires-clause-room c =
     let is = slot_here st p c.if-place-stamp.true in
     let one : held (slot_of st p) ≡ 1 = ap (λ s. held s) is in
     let more = count_more st ps i z c.loop-place-test.true in
-    let all = count_take st ps (i + 1) in
+    let all = count_take (slot_of st) (blank st) (blank_free st) ps (i + 1) in
     omega (arith, one, more, all, c.requires.room, c.loop-place.invariant.spare)
 
 pub add-requires-clause-new : goal.add-requires-clause-new
@@ -34,7 +36,7 @@ add-requires-clause-new c =
     let z : Place = record { f = 0; g = 0; h = 0; node = 0; stamp = 0 } in
     let p = get_or ps i z in
     let is = slot_here st p c.if-place-stamp.true in
-    c.loop-place.invariant.same p.f p.g p.h ∙ first_new st ps i p.f p.g p.h p.node z c.requires.apart c.loop-place-test.true is
+    c.loop-place.invariant.same p.f p.g p.h ∙ first_new (slot_of st) (blank st) (blank_free st) (is_key p.f p.g p.h) ps i (p.f, p.g, p.h) p.node (key_test p.f p.g p.h) c.requires.apart c.loop-place-test.true (within st ps i z c.loop-place-test.true ∙ is)
 
 pub loop-place-preserved : goal.loop-place-preserved
 loop-place-preserved c =
@@ -51,7 +53,7 @@ loop-place-preserved c =
       | then-place-stamp w ↦
           let is = slot_here st p w.if-place-stamp.true in
           let one : held (slot_of st p) ≡ 1 = ap (λ s. held s) is in
-          let none : found t.entries p.f p.g p.h ≡ None = old.same p.f p.g p.h ∙ first_new st ps i p.f p.g p.h p.node z c.requires.apart lt is in
+          let none : found t.entries p.f p.g p.h ≡ None = old.same p.f p.g p.h ∙ first_new (slot_of st) (blank st) (blank_free st) (is_key p.f p.g p.h) ps i (p.f, p.g, p.h) p.node (key_test p.f p.g p.h) c.requires.apart lt (within st ps i z lt ∙ is) in
           rw w.self-is (record {
             same = copies_held st t.entries w.add.new.self.entries ps i p.f p.g p.h p.node z lt is old.same none w.add.ensures.puts;
             spare = omega (arith, one, more, old.spare, w.add.ensures.spare);

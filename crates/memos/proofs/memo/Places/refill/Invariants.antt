@@ -1,6 +1,6 @@
 use Rattle.std.proofs.Common.{◌≡◌, ◌+◌, length, take}
 use Rattle.tables.specs.Probing.{entries_of}
-use Rattle.memos.specs.Memo.{slots_of, SameFound}
+use Rattle.memos.specs.MemoPlaces.{slots_of, SameFound}
 use Rattle.memos.proofs.memo.Places.refill.Given as goal
 
 abbrev pub invariant-loop-place : goal.invariant-loop-place

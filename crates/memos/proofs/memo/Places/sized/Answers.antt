@@ -2,10 +2,11 @@ use Rattle.std.proofs.Common.{◌≡◌, ◌<◌, ◌≤◌, ◌^◌, ℕ, refl,
 use Rattle.std.proofs.lemmas.List.{length-replicate}
 use Rattle.std.proofs.lemmas.List.Elements.{All-replicate}
 use Rattle.tables.specs.Probing.{IsProbed, at, free, holds, entries_of, used_of}
-use Rattle.memos.specs.Memo.{slots_of, home}
+use Rattle.memos.specs.MemoPlaces.{slot_of, slots_of, home}
 use Rattle.memos.specs.declared.memo.Place.{Place}
 use Rattle.tables.proofs.Probing.{probed_free, used_free, entries_free}
-use Rattle.memos.proofs.Memos.{at_replicate}
+use Rattle.tables.proofs.Searching.{at_replicate}
+use Rattle.memos.proofs.Memos.{blank, blank_free}
 use Rattle.memos.proofs.memo.Places.sized.Goals as goal
 
 pub invariant_of-result : goal.invariant_of-result
@@ -13,7 +14,7 @@ invariant_of-result c =
     let ps = c.in_ok-places_free.places_free.items in
     let z : Place = record { f = 0; g = 0; h = 0; node = 0; stamp = 0 } in
     let items : ps ≡ replicate c.args.places z = c.in_ok-places_free.ensures.items_if_clones_equal (λ y e. e) in
-    let all : (i : ℕ) → at (slots_of 1 ps) i ≡ free = λ i. rw items (at_replicate 1 c.args.places i z refl) in
+    let all : (i : ℕ) → at (slots_of 1 ps) i ≡ free = λ i. rw items (at_replicate (slot_of 1) (blank 1) (blank_free 1) c.args.places i z refl) in
     let len : length ps ≡ c.args.places = ap length items ∙ length-replicate c.args.places z in
     let used = used_free (slots_of 1 ps) all in
     record {
@@ -28,5 +29,5 @@ returns-clause-empty c =
     let ps = c.in_ok-places_free.places_free.items in
     let z : Place = record { f = 0; g = 0; h = 0; node = 0; stamp = 0 } in
     let items : ps ≡ replicate c.args.places z = c.in_ok-places_free.ensures.items_if_clones_equal (λ y e. e) in
-    let all : (i : ℕ) → at (slots_of 1 ps) i ≡ free = λ i. rw items (at_replicate 1 c.args.places i z refl) in
+    let all : (i : ℕ) → at (slots_of 1 ps) i ≡ free = λ i. rw items (at_replicate (slot_of 1) (blank 1) (blank_free 1) c.args.places i z refl) in
     entries_free (slots_of 1 ps) all

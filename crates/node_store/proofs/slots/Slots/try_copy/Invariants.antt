@@ -1,5 +1,9 @@
-use Rattle.std.proofs.Common.{◌≡◌, take}
+use Rattle.std.proofs.Common.{◌≡◌, length}
+use Rattle.node_store.proofs.Copies.{AreCopied}
 use Rattle.node_store.proofs.slots.Slots.try_copy.Given as goal
 
 abbrev pub invariant-loop-table : goal.invariant-loop-table
-invariant-loop-table l = l.tables.items ≡ take l.table-index l.self-inside.tables.items
+invariant-loop-table l = record {
+  count : length l.tables.items ≡ l.table-index;
+  same : AreCopied l.self-inside.tables.items l.tables.items l.table-index;
+}

@@ -3,7 +3,7 @@ use Rattle.bit_lists.specs.Partials.{fits}
 use Rattle.diagram_model.specs.Nodes.{follow}
 use Rattle.diagram_model.specs.Stores.{depth}
 use Rattle.diagram_model.proofs.Values.{below-order}
-use Rattle.node_store.specs.Differs.{DifferAt}
+use Rattle.node_store.specs.Pairs.{DifferAt}
 use Rattle.node_store.proofs.Differing.{coincide_both, differ_fixed, differ_constants, pair_put, pair_falls, fixed_live}
 use Rattle.node_store.proofs.store.Store.+differ_from.Goals as goal
 

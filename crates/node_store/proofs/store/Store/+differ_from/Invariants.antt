@@ -2,7 +2,7 @@ use Rattle.std.proofs.Common.{◌≡◌, ◌+◌, ◌<◌, ℕ, true, false, [],
 use Rattle.bit_lists.specs.Partials.{fits}
 use Rattle.diagram_model.specs.Nodes.{follow}
 use Rattle.diagram_model.specs.Stores.{depth}
-use Rattle.node_store.specs.Differs.{AllCoincide, CoincideAt}
+use Rattle.node_store.specs.Pairs.{AllCoincide, CoincideAt}
 use Rattle.node_store.proofs.store.Store.+differ_from.Given as goal
 
 abbrev pub decreases-differ_from : goal.decreases-differ_from

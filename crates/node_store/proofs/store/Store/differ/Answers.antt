@@ -1,6 +1,7 @@
 use Rattle.std.proofs.Common.{◌≡◌, Bool, true, false}
 use Rattle.std.proofs.lemmas.Result.{IfOk-weaker}
-use Rattle.node_store.specs.Differs.{Differ, Coincide, DifferAt, CoincideAt}
+use Rattle.node_store.specs.Differs.{Differ, Coincide}
+use Rattle.node_store.specs.Pairs.{DifferAt, CoincideAt}
 use Rattle.node_store.proofs.Differing.{differ_lists, coincide_lists}
 use Rattle.node_store.proofs.store.Store.differ.Goals as goal
 

@@ -1,39 +1,13 @@
-use Rattle.std.proofs.Common.{length, sym, refl, inr}
-use Rattle.bit_lists.specs.Orders.{after}
-use Rattle.diagram_model.specs.Stores.{IsSound, from}
-use Rattle.bit_lists.proofs.Variables.{has-here, has-head}
-use Rattle.diagram_model.proofs.Values.{live-wider, value-node}
-use Rattle.node_store.specs.Slots.{parts}
-use Rattle.node_store.proofs.Makes.{tried_denotes, tried_live, tried_functions}
+use Rattle.std.proofs.Common.{refl}
+use Rattle.diagram_model.specs.Stores.{IsAbove, requested}
+use Rattle.node_store.proofs.Requests.{extends_before, functions_before, room_before, stop_before}
 use Rattle.node_store.proofs.store.Store.make.Goals as goal
 
-pub returns-then-low-high-clause-live : goal.returns-then-low-high-clause-live
-returns-then-low-high-clause-live g c =
-    live-wider c.args.self.now.slots (after c.args.self.now.order c.args.var) (from c.args.self.now.order c.args.var) c.args.low.0
-    (λ v h. has-head c.args.var v (after c.args.self.now.order c.args.var) h) c.requires.low
-
-pub returns-in-Some-clause-live : goal.returns-in-Some-clause-live
-returns-in-Some-clause-live g c =
-    inr (record { parts = record { var = c.args.var; low = c.args.low.0; high = c.args.high.0 }; is = c.in-Some.ensures.found; below = has-here c.args.var (after c.args.self.now.order c.args.var) c.args.var refl })
-
-pub returns-in-Some-clause-denotes : goal.returns-in-Some-clause-denotes
-returns-in-Some-clause-denotes g c x =
-    let sound : IsSound c.args.self.now = rw (sym c.self.view_is) c.self.invariant in
-    value-node c.args.self.now.slots (length c.args.self.now.order) c.args.self.now.order c.in-Some.node (record { var = c.args.var; low = c.args.low.0; high = c.args.high.0 }) sound.diagram c.in-Some.ensures.found c.requires.var x
-
--- what is known where a node was to be added
-pub returns-clause-denotes : goal.returns-clause-denotes
-returns-clause-denotes g c =
-    tried_denotes c.args.self.now c.add.new.self c.args.var c.args.low.0 c.args.high.0 c.add.result
-    (record { puts = c.add.ensures.puts; rest = c.add.ensures.rest; refused = c.add.ensures.refused; before = c.held-held.ensures.sound; after = c.add.ensures.sound })
-    c.requires.var
-
-pub returns-clause-live : goal.returns-clause-live
-returns-clause-live g c =
-    tried_live c.args.self.now c.add.new.self (parts c.args.var c.args.low.0 c.args.high.0) c.add.result
-    (record { puts = c.add.ensures.puts; rest = c.add.ensures.rest; refused = c.add.ensures.refused; before = c.held-held.ensures.sound; after = c.add.ensures.sound })
-
 pub returns-clause-functions : goal.returns-clause-functions
-returns-clause-functions g c =
-    tried_functions c.args.self.now c.add.new.self (parts c.args.var c.args.low.0 c.args.high.0) c.add.result
-    (record { puts = c.add.ensures.puts; rest = c.add.ensures.rest; refused = c.add.ensures.refused; before = c.held-held.ensures.sound; after = c.add.ensures.sound })
+returns-clause-functions g c = functions_before c.args.self.now c.count_request.new.self c.node_of.new.self c.count_request.ensures.requested c.node_of.ensures.functions
+
+pub returns-clause-extends : goal.returns-clause-extends
+returns-clause-extends g c = extends_before c.args.self.now c.count_request.new.self c.node_of.new.self c.count_request.ensures.requested c.node_of.ensures.extends
+
+pub returns-clause-stop : goal.returns-clause-stop
+returns-clause-stop g c = stop_before c.args.self.now c.count_request.new.self c.args.var c.args.low.0 c.args.high.0 c.node_of.result c.count_request.ensures.requested c.node_of.ensures.stop

@@ -1,6 +1,6 @@
 use Rattle.std.proofs.Common.{◌≡◌, ℕ, refl, [], length, arith, ap}
 use Rattle.tables.specs.Probing.{at, free}
-use Rattle.tables.specs.NodeTable.{slots_of, home}
+use Rattle.tables.specs.NodePlaces.{slots_of, home}
 use Rattle.tables.proofs.Probing.{probed_free, used_free, entries_free}
 use Rattle.tables.proofs.node_table.NodeTable.new.Goals as goal
 

@@ -1,6 +1,6 @@
 use Rattle.std.proofs.Common.{◌≡◌, ◌+◌, length, take}
 use Rattle.tables.specs.Probing.{entries_of}
-use Rattle.tables.specs.NodeTable.{slots_of}
+use Rattle.tables.specs.NodePlaces.{slots_of}
 use Rattle.tables.proofs.Nodes.{Copies}
 use Rattle.tables.proofs.node_table.NodeTable.refill.Given as goal
 

@@ -1,5 +1,5 @@
 use Rattle.std.proofs.Common.{arith}
-use Rattle.tables.specs.NodeTable.{slots_of}
+use Rattle.tables.specs.NodePlaces.{slots_of}
 use Rattle.tables.proofs.Probing.{held_used}
 use Rattle.tables.proofs.node_table.NodeTable.reserve.Goals as goal
 
@@ -7,4 +7,4 @@ pub overflow_add-len : goal.overflow_add-len
 overflow_add-len c =
     let h = held_used (slots_of c.self.inside.places.items) in
     let i = c.self.invariant in
-    omega (arith, h, i.count, i.few, i.size, c.if-more-gt1073741824.false)
+    omega (arith, h, i.count, i.few, i.size, c.if-more-gt-MOST_KEYS.false)
