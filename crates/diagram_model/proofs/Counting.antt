@@ -17,7 +17,7 @@ use Rattle.diagram_model.proofs.Prefixes.{Ignores, fix_twice, ignores_fix}
 use Rattle.diagram_model.proofs.Sizes.{Among, among_either, same_bool-true, same_truths-at, same_truths-refl}
 
 -- lists that pass for the same are
-same_is : (ts us : List Bool) → same_truths ts us ≡ true → ts ≡ us
+pub same_is : (ts us : List Bool) → same_truths ts us ≡ true → ts ≡ us
 unfolding same_truths
 same_is [] [] h = refl
 same_is [] (u ∷ us) h = absurd (false≢true h)
@@ -26,7 +26,7 @@ same_is (t ∷ ts) (u ∷ us) h =
     let both = and_parts (same_bool t u) (same_truths ts us) h in
     ap (λ b. b ∷ ts) (same_bool-true t u both.0) ∙ ap (λ l. u ∷ l) (same_is ts us both.1)
 
-is_same : (ts us : List Bool) → ts ≡ us → same_truths ts us ≡ true
+pub is_same : (ts us : List Bool) → ts ≡ us → same_truths ts us ≡ true
 is_same ts us e = ap (λ l. same_truths ts l) (sym e) ∙ same_truths-refl ts
 
 member_in : (t : List Bool) (ts : List (List Bool)) → is_member same_truths ts t ≡ true → IsIn t ts
@@ -39,7 +39,7 @@ in_member t [] h = absurd h
 in_member t (u ∷ us) (inl e) = or_left (same_truths t u) (is_member same_truths us t) (is_same t u e)
 in_member t (u ∷ us) (inr more) = or_right (same_truths t u) (is_member same_truths us t) (in_member t us more)
 
-in_same : (t u : List Bool) (ts : List (List Bool)) → t ≡ u → IsIn u ts → IsIn t ts
+pub in_same : (t u : List Bool) (ts : List (List Bool)) → t ≡ u → IsIn u ts → IsIn t ts
 in_same t u ts e h = rw e h
 
 -- each list once
@@ -47,7 +47,7 @@ head_or : (t u : List Bool) (us : List (List Bool)) → (IsIn t (unique_keys sam
 head_or t u us rest (inl at) = inl at
 head_or t u us rest (inr more) = inr (rest more)
 
-of_unique : (t : List Bool) (ts : List (List Bool)) → IsIn t (unique_keys same_truths ts) → IsIn t ts
+pub of_unique : (t : List Bool) (ts : List (List Bool)) → IsIn t (unique_keys same_truths ts) → IsIn t ts
 of_unique t [] h = h
 of_unique t (u ∷ us) h =
     elim (cases_Bool (is_member same_truths us u)) [
@@ -55,7 +55,7 @@ of_unique t (u ∷ us) h =
       | inr e ↦ head_or t u us (of_unique t us) (subst (λ l. IsIn t l) (cond-false (is_member same_truths us u) (unique_keys same_truths us) (u ∷ unique_keys same_truths us) e) h)
     ]
 
-to_unique : (t : List Bool) (ts : List (List Bool)) → IsIn t ts → IsIn t (unique_keys same_truths ts)
+pub to_unique : (t : List Bool) (ts : List (List Bool)) → IsIn t ts → IsIn t (unique_keys same_truths ts)
 to_unique t [] h = h
 to_unique t (u ∷ us) h =
     elim (cases_Bool (is_member same_truths us u)) [
@@ -65,7 +65,7 @@ to_unique t (u ∷ us) h =
           (elim h [ inl at ↦ inl at | inr more ↦ inr (to_unique t us more) ])
     ]
 
-unique_different : (ts : List (List Bool)) → AreDifferent (unique_keys same_truths ts)
+pub unique_different : (ts : List (List Bool)) → AreDifferent (unique_keys same_truths ts)
 unique_different [] = tt
 unique_different (u ∷ us) =
     elim (cases_Bool (is_member same_truths us u)) [
@@ -74,21 +74,21 @@ unique_different (u ∷ us) =
           (λ h. false≢true (sym e ∙ in_member u us (of_unique u us h)), unique_different us)
     ]
 
-in_append : (t : List Bool) (ts us : List (List Bool)) → IsIn t (ts ++ us) → IsIn t ts ⊎ IsIn t us
+pub in_append : (t : List Bool) (ts us : List (List Bool)) → IsIn t (ts ++ us) → IsIn t ts ⊎ IsIn t us
 in_append t [] us h = inr h
 in_append t (s ∷ ts) us (inl e) = inl (inl e)
 in_append t (s ∷ ts) us (inr h) = elim (in_append t ts us h) [ inl a ↦ inl (inr a) | inr b ↦ inr b ]
 
-in_left : (t : List Bool) (ts us : List (List Bool)) → IsIn t ts → IsIn t (ts ++ us)
+pub in_left : (t : List Bool) (ts us : List (List Bool)) → IsIn t ts → IsIn t (ts ++ us)
 in_left t [] us h = absurd h
 in_left t (s ∷ ts) us (inl e) = inl e
 in_left t (s ∷ ts) us (inr h) = inr (in_left t ts us h)
 
-in_right : (t : List Bool) (ts us : List (List Bool)) → IsIn t us → IsIn t (ts ++ us)
+pub in_right : (t : List Bool) (ts us : List (List Bool)) → IsIn t us → IsIn t (ts ++ us)
 in_right t [] us h = h
 in_right t (s ∷ ts) us h = inr (in_right t ts us h)
 
-append_different : (ts us : List (List Bool)) → AreDifferent ts → AreDifferent us → ((t : List Bool) → IsIn t ts → IsIn t us → ⊥) → AreDifferent (ts ++ us)
+pub append_different : (ts us : List (List Bool)) → AreDifferent ts → AreDifferent us → ((t : List Bool) → IsIn t ts → IsIn t us → ⊥) → AreDifferent (ts ++ us)
 append_different [] us dt du apart = du
 append_different (t ∷ ts) us dt du apart = (
   λ h. elim (in_append t ts us h) [ inl a ↦ dt.0 a | inr b ↦ apart t (inl refl) b ],
@@ -169,7 +169,7 @@ counted_ignores k (v ∷ vs) u f g out ign (inr more) =
     counted_ignores k vs u (fix v more.0 f) g parts.1 (ignores_fix u v more.0 f (λ e. parts.0 (sym e)) ign) more.1
 
 -- a function that doesn't read v doesn't depend on it
-ignores_depends : (k v : ℕ) (g : Function) → Ignores g v → depends k v g ≡ false
+pub ignores_depends : (k v : ℕ) (g : Function) → Ignores g v → depends k v g ≡ false
 ignores_depends k v g h =
     ap (λ (f : Function). not (same_truths (truths k f) (truths k (fix v true g)))) (h false)
     ∙ ap (λ (f : Function). not (same_truths (truths k g) (truths k f))) (h true) ∙ ap not (same_truths-refl (truths k g))
@@ -233,13 +233,13 @@ fixed_truths k v b f g lt e =
     mapped_same (λ ys. fix v b f (bit ys)) (λ ys. fix v b g (bit ys)) k (all_lists k) (λ ys len. fixed_at k v b f g ys lt e len) (all_long k)
 
 -- whether a function depends on a variable is seen from its truth list
-depends_same : (k v : ℕ) (f g : Function) → v < k → truths k f ≡ truths k g → depends k v f ≡ depends k v g
+pub depends_same : (k v : ℕ) (f g : Function) → v < k → truths k f ≡ truths k g → depends k v f ≡ depends k v g
 depends_same k v f g lt e =
     ap (λ ts. not (same_truths ts (truths k (fix v true f)))) (fixed_truths k v false f g lt e)
     ∙ ap (λ ts. not (same_truths (truths k (fix v false g)) ts)) (fixed_truths k v true f g lt e)
 
 -- the truth lists that are counted
-counted_lists : ℕ → List ℕ → List Function → List (List Bool)
+pub counted_lists : ℕ → List ℕ → List Function → List (List Bool)
 counted_lists k [] fs = []
 counted_lists k (v ∷ vs) fs = unique_keys same_truths (map (truths k) (filter (depends k v) fs)) ++ counted_lists k vs (fix_both v fs)
 
@@ -260,7 +260,7 @@ counted_right k (v ∷ vs) fs t h =
           record { from = s.0; one = s.1; function = r.function; counted = inr (s.2.0, counted_same k vs r.from (fix v s.2.0 s.0) r.function s.2.1 r.counted); is = r.is }
     ]
 
-counted_whole : (k : ℕ) (vs : List ℕ) (fs : List Function) (f g : Function) → IsOneOf fs f → IsCountedFrom k vs f g → IsIn (truths k g) (counted_lists k vs fs)
+pub counted_whole : (k : ℕ) (vs : List ℕ) (fs : List Function) (f g : Function) → IsOneOf fs f → IsCountedFrom k vs f g → IsIn (truths k g) (counted_lists k vs fs)
 unfolding counted_lists
 counted_whole k [] fs f g one h = absurd h
 counted_whole k (v ∷ vs) fs f g one (inl at) =
@@ -285,7 +285,7 @@ counted_once k (v ∷ vs) fs vars =
     let same : depends k v a.function ≡ depends k v b.function = depends_same k v a.function b.function vars.0 (sym a.is ∙ b.is) in
     false≢true (sym none ∙ (sym same ∙ a.reads)))
 
-counted_length : (k : ℕ) (vs : List ℕ) (fs : List Function) → length (counted_lists k vs fs) ≡ size k vs fs
+pub counted_length : (k : ℕ) (vs : List ℕ) (fs : List Function) → length (counted_lists k vs fs) ≡ size k vs fs
 unfolding counted_lists size
 counted_length k [] fs = refl
 counted_length k (v ∷ vs) fs =

@@ -5,9 +5,11 @@ pub mod Fixing
 pub mod Growing
 pub mod Heights
 pub mod Held
+pub mod Joint
 pub mod Meanings
 pub mod Prefixes
 pub mod Reached
 pub mod Requests
 pub mod Sizes
+pub mod Telling
 pub mod Values

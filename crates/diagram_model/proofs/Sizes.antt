@@ -111,7 +111,7 @@ same_truths-refl [] = refl
 same_truths-refl (t ∷ ts) = ap (λ b. b && same_truths ts ts) (same_bool-refl t) ∙ same_truths-refl ts
 
 -- nodes whose truth lists agree denote the same function
-same_from_truths : (s : List (Option Parts)) (k : ℕ) (vs : List ℕ) (n m : ℕ) → AreVars k vs → same_truths (truths k (denoted s vs n)) (truths k (denoted s vs m)) ≡ true → SameFunction s vs n m
+pub same_from_truths : (s : List (Option Parts)) (k : ℕ) (vs : List ℕ) (n m : ℕ) → AreVars k vs → same_truths (truths k (denoted s vs n)) (truths k (denoted s vs m)) ≡ true → SameFunction s vs n m
 unfolding truths value
 same_from_truths s k vs n m vars same x =
     let y = bit (take_bits k x) in

@@ -1,9 +1,10 @@
 //! Laws of nodes and sizes. Each is the contract of a function without a body.
-ghost use Rattle.std.specs.Prelude.{◌≡◌, ℕ, ◌*◌, ◌^◌, ◌-◌, ◌≤◌, true, false, cond, List, Some, length};
+ghost use Rattle.std.specs.Prelude.{◌≡◌, ℕ, ◌*◌, ◌^◌, ◌-◌, ◌≤◌, true, false, cond, List, [], ◌∷◌, Some, length};
 ghost use Rattle.bit_lists.specs.Orders.{AreVars};
 ghost use Rattle.diagram_model.specs.declared.parts.Parts.{Parts};
 ghost use Rattle.diagram_model.specs.Bryant.{IsCounted, IsNumberOf};
 ghost use Rattle.diagram_model.specs.Functions.{Assignment, Function};
+ghost use Rattle.diagram_model.specs.Joint.{Trio, joint_size, IsCountedTrio};
 ghost use Rattle.diagram_model.specs.Nodes.{parts_of, value, SameFunction};
 ghost use Rattle.diagram_model.specs.Size.{size};
 ghost use Rattle.diagram_model.specs.Stores.{Diagram, IsSound, IsLive, Extends, KeepsFunctions};
@@ -33,4 +34,11 @@ pub fn size_counts_functions()
 /// The size is at most the number of functions times one less than two to the number of variables.
 pub fn size_is_bounded()
     ensures { (k : ℕ) (order : List ℕ) (fs : List Function) → size k order fs ≤ length fs * (2 ^ length order - 1) }
+{}
+
+/// The joint size of three functions is the number of different triples that arise from them by fixing
+/// the variables of a prefix of the order in all three, and that have one which depends on the next
+/// variable.
+pub fn joint_size_counts_triples()
+    ensures { (k : ℕ) (order : List ℕ) (t : Trio) → AreVars k order → IsNumberOf (IsCountedTrio k order t) (joint_size k order (t ∷ [])) }
 {}

@@ -8,7 +8,7 @@ mod laws;
 mod parts;
 
 pub use laws::{
-    growth_keeps_functions, node_meaning, nodes_are_canonical, size_counts_functions,
-    size_is_bounded,
+    growth_keeps_functions, joint_size_counts_triples, node_meaning, nodes_are_canonical,
+    size_counts_functions, size_is_bounded,
 };
 pub use parts::Parts;

@@ -12,7 +12,7 @@ use Rattle.diagram_ops.specs.declared.split.Split.{Split}
 use Rattle.diagram_ops.specs.Made.{StopIs, IsPart, Keeps}
 use Rattle.diagram_ops.specs.Operands.{AreLive, depths, IsSplit}
 use Rattle.diagram_ops.specs.Operations.{Operation, IsResult, kept_for, AreResults}
-use Rattle.diagram_ops.proofs.Results.{Fixes, IsStep, same_store, lives_on, is_result_on, results_on, rest_live, depths_on, depths_fall}
+use Rattle.diagram_ops.proofs.Results.{Fixes, IsParted, IsStep, same_store, lives_on, below_live, is_result_on, results_on, depths_on, parted}
 use Rattle.diagram_ops.proofs.Splits.{three}
 use Rattle.diagram_ops.proofs.Making.{makes_none, makes_then, makes_wider, stop_wider, part_of_whole, whole_made}
 
@@ -23,8 +23,11 @@ unmet_before es at o same none = sym same ∙ none
 pub record Begins (op : Operation) (d : Diagram) (at : Operands) (s : Split) : Type 0 where
   pub sound : IsSound d
   pub live : AreLive d at
-  pub split : IsSplit d at s
-  pub fixes : Fixes op s.var
+  pub parted : IsParted op d at s
+
+-- an operation that goes through the topmost variable
+pub begins : (op : Operation) (d : Diagram) (at : Operands) (s : Split) → IsSound d → AreLive d at → IsSplit d at s → Fixes op s.var → Begins op d at s
+begins op d at s sound live split fixes = record { sound = sound; live = live; parted = parted op d at s sound split fixes }
 
 pub keeps_same : (op : Operation) (at : Operands) (d : Diagram) (es : List (Triple × ℕ)) → IsSound d → AreResults op d es → Keeps op at d d es es
 keeps_same op at d es s all = record {
@@ -33,23 +36,24 @@ keeps_same op at d es s all = record {
   results = all;
   higher = λ to live less. refl;
   made = makes_none d (IsPart op d at);
+  still = λ to n is. is;
 }
 
 module _ (op : Operation) (d : Diagram) (at : Operands) (s : Split) (b : Begins op d at s) where
   pub low_live : AreLive d s.low
-  low_live = rw b.split.low (rest_live d s.var false at b.sound b.split.var b.split.below)
+  low_live = below_live d s.var s.low b.parted.low.above
 
   pub low_falls : depths d s.low < depths d at
-  low_falls = rw b.split.low (depths_fall d s.var false at b.sound b.split.some)
+  low_falls = b.parted.low.falls
 
   high_live_d : AreLive d s.high
-  high_live_d = rw b.split.high (rest_live d s.var true at b.sound b.split.var b.split.below)
+  high_live_d = below_live d s.var s.high b.parted.high.above
 
   high_falls_d : depths d s.high < depths d at
-  high_falls_d = rw b.split.high (depths_fall d s.var true at b.sound b.split.some)
+  high_falls_d = b.parted.high.falls
 
   low_part : (p : Function) → IsPart op d s.low p → IsPart op d at p
-  low_part p = part_of_whole op d d s.var false at s.low b.sound b.sound (same_store d) b.fixes b.split.var b.split.below b.split.low p
+  low_part p = part_of_whole op d d at s false s.low b.sound b.sound (same_store d) b.parted b.parted.low p
 
   -- the first part alone
   pub keeps_low : (e : Diagram) (m0 m1 : List (Triple × ℕ)) → Keeps op s.low d e m0 m1 → Keeps op at d e m0 m1
@@ -59,6 +63,7 @@ module _ (op : Operation) (d : Diagram) (at : Operands) (s : Split) (b : Begins 
     results = k.results;
     higher = λ to live less. k.higher to live (omega (arith, less, low_falls));
     made = makes_wider d e (IsPart op d s.low) (IsPart op d at) low_part k.made;
+    still = k.still;
   }
 
   pub stop_low : (e : Diagram) (r : StoreStop) → StopIs e (IsPart op d s.low) r → StopIs e (IsPart op d at) r
@@ -73,7 +78,7 @@ module _ (op : Operation) (d : Diagram) (at : Operands) (s : Split) (b : Begins 
     high_falls = omega (arith, depths_on d e s.high b.sound first.sound first.extends high_live_d, high_falls_d)
 
     high_part : (p : Function) → IsPart op e s.high p → IsPart op d at p
-    high_part p = part_of_whole op d e s.var true at s.high b.sound first.sound first.extends b.fixes b.split.var b.split.below b.split.high p
+    high_part p = part_of_whole op d e at s true s.high b.sound first.sound first.extends b.parted b.parted.high p
 
     -- what is kept for nodes that stand as high as the whole, or higher
     both_higher : (k : Diagram) (m2 : List (Triple × ℕ)) → Keeps op s.high e k m1 m2 → (to : Operands) → AreLive d to → depths d at ≤ depths d to → kept_for m2 to ≡ kept_for m0 to
@@ -90,6 +95,7 @@ module _ (op : Operation) (d : Diagram) (at : Operands) (s : Split) (b : Begins 
       made = makes_then d e k (IsPart op d at) first.sound second.sound second.extends
           (makes_wider d e (IsPart op d s.low) (IsPart op d at) low_part first.made)
           (makes_wider e k (IsPart op e s.high) (IsPart op d at) high_part second.made);
+      still = λ to n is. second.still to n (first.still to n is);
     }
 
     pub stop_high : (k : Diagram) (r : StoreStop) → StopIs k (IsPart op e s.high) r → StopIs k (IsPart op d at) r
@@ -106,8 +112,7 @@ module _ (op : Operation) (d : Diagram) (at : Operands) (s : Split) (b : Begins 
       sound_e = second.sound;
       extends = extends_trans d e k first.extends second.extends;
       live = b.live;
-      split = b.split;
-      fixes = b.fixes;
+      parted = b.parted;
       of_low = is_result_on op e k s.low low first.sound second.sound second.extends of_low;
       of_high = of_high;
     }
@@ -120,6 +125,7 @@ keeps_refused op at d k m m0 m2 kept sm ext same = record {
   results = results_on op k m m2 kept.sound sm ext kept.results;
   higher = kept.higher;
   made = makes_then d k m (IsPart op d at) kept.sound sm ext kept.made (λ n p is. inl (sym (ap (λ (e : Diagram). parts_of e.slots n) same) ∙ is));
+  still = kept.still;
 }
 
 -- the node of the whole is made
@@ -132,9 +138,10 @@ keeps_node op at d k m n m0 m2 sd live kept sm ext is only =
       results = results_on op k m m2 kept.sound sm ext kept.results;
       higher = kept.higher;
       made = makes_then d k m (IsPart op d at) kept.sound sm ext kept.made (whole_made op d k m at n sd sm dm live is only);
+      still = kept.still;
     }
 
-cases_at : (at to : Operands) → ((to.f ≡ at.f) × (to.g ≡ at.g) × (to.h ≡ at.h)) ⊎ ((to.f ≢ at.f) ⊎ ((to.g ≢ at.g) ⊎ (to.h ≢ at.h)))
+pub cases_at : (at to : Operands) → ((to.f ≡ at.f) × (to.g ≡ at.g) × (to.h ≡ at.h)) ⊎ ((to.f ≢ at.f) ⊎ ((to.g ≢ at.g) ⊎ (to.h ≢ at.h)))
 cases_at at to =
     elim (cases_eq to.f at.f) [
       | inl p ↦ elim (cases_eq to.g at.g) [
@@ -144,15 +151,19 @@ cases_at at to =
       | inr p ↦ inr (inl p)
     ]
 
-operands_eq : (at to : Operands) → (to.f ≡ at.f) × (to.g ≡ at.g) × (to.h ≡ at.h) → to ≡ at
+pub operands_eq : (at to : Operands) → (to.f ≡ at.f) × (to.g ≡ at.g) × (to.h ≡ at.h) → to ≡ at
 operands_eq at to e = ap (λ k. three k to.g to.h) e.0 ∙ ap (λ k. three at.f k to.h) e.1 ∙ ap (λ k. three at.f at.g k) e.2
 
 some_number : (m n : ℕ) → Some m ≡ Some n → m ≡ n
 some_number m n e = cc
 
+no_number : (o : Option ℕ) (n : ℕ) → o ≡ Some n → o ≡ None → ⊥
+no_number None n p q = absurd (cc)
+no_number (Some m) n p q = absurd (cc)
+
 -- the result of the whole is kept
-pub keeps_put : (op : Operation) (at : Operands) (d m : Diagram) (n : ℕ) (m0 m2 m3 : List (Triple × ℕ)) → Keeps op at d m m0 m2 → IsResult op m at n → kept_for m3 at ≡ Some n → ((a b c : ℕ) → (a ≢ at.f) ⊎ ((b ≢ at.g) ⊎ (c ≢ at.h)) → found m3 a b c ≡ found m2 a b c) → Keeps op at d m m0 m3
-keeps_put op at d m n m0 m2 m3 kept is here others = record {
+pub keeps_put : (op : Operation) (at : Operands) (d m : Diagram) (n : ℕ) (m0 m2 m3 : List (Triple × ℕ)) → Keeps op at d m m0 m2 → IsResult op m at n → kept_for m2 at ≡ None → kept_for m3 at ≡ Some n → ((a b c : ℕ) → (a ≢ at.f) ⊎ ((b ≢ at.g) ⊎ (c ≢ at.h)) → found m3 a b c ≡ found m2 a b c) → Keeps op at d m m0 m3
+keeps_put op at d m n m0 m2 m3 kept is none here others = record {
   sound = kept.sound;
   extends = kept.extends;
   results = λ to i there.
@@ -169,4 +180,10 @@ keeps_put op at d m n m0 m2 m3 kept is here others = record {
         | inr ne ↦ others to.f to.g to.h ne ∙ kept.higher to live less
       ];
   made = kept.made;
+  still = λ to i was.
+      let there = kept.still to i was in
+      elim (cases_at at to) [
+        | inl e ↦ absurd (no_number (kept_for m2 to) i there (ap (kept_for m2) (operands_eq at to e) ∙ none))
+        | inr ne ↦ others to.f to.g to.h ne ∙ there
+      ];
 }

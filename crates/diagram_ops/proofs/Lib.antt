@@ -1,10 +1,12 @@
 pub mod Choosing
 pub mod Calls
 pub mod Connecting
+pub mod Flipping
 pub mod Making
 pub mod Restricting
 pub mod Results
 pub mod Right
 pub mod Shorts
 pub mod Splits
+pub mod Taking
 pub mod Variables

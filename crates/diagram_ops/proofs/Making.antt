@@ -8,9 +8,8 @@ use Rattle.diagram_model.specs.Nodes.{parts_of, value, IsLiveIn, IsDiagram}
 use Rattle.diagram_model.specs.Stores.{Diagram, IsLive, IsAbove, IsSound, Extends, AddsOnly, NoRoom, PutsNode, function_of, requested}
 use Rattle.diagram_model.proofs.Canonical.{same_node}
 use Rattle.diagram_model.proofs.Extend.{live-keeps, walk-keeps, keeps_put, diagram_put}
-use Rattle.diagram_model.proofs.Fixing.{ignores_higher}
 use Rattle.diagram_model.proofs.Growing.{function_on}
-use Rattle.diagram_model.proofs.Prefixes.{Ignores, prefix_fix, prefix_self}
+use Rattle.diagram_model.proofs.Prefixes.{prefix_fix, prefix_self}
 use Rattle.diagram_model.proofs.Values.{none_some, live-wider, value-node, has-after}
 use Rattle.node_store.specs.declared.node.StoreStop.{StoreStop}
 use Rattle.node_store.specs.declared.node.StoreStop.TheVariants.{Full, OutOfMemory}
@@ -18,9 +17,9 @@ use Rattle.node_store.specs.Makes.{StopMeans}
 use Rattle.diagram_ops.specs.declared.operands.Operands.{Operands}
 use Rattle.diagram_ops.specs.declared.split.Split.{Split}
 use Rattle.diagram_ops.specs.Made.{Property, MakesOnly, IsMissing, StopIs, IsPart}
-use Rattle.diagram_ops.specs.Operands.{AreLive, AreFrom, rest}
+use Rattle.diagram_ops.specs.Operands.{AreLive}
 use Rattle.diagram_ops.specs.Operations.{Operation, result_of, IsResult}
-use Rattle.diagram_ops.proofs.Results.{Fixes, IsStep, fix_result, result_on, rest_live, var_on, step_low, step_high, step_choice}
+use Rattle.diagram_ops.proofs.Results.{IsPartAt, IsParted, IsStep, below_live, result_on, var_on, step_low, step_high, step_choice}
 
 has_property : (Is : Property) (f g : Function) → f ≡ g → Is f → Is g
 has_property Is f g e h = rw (sym e) h
@@ -52,22 +51,12 @@ pub stop_wider : (d : Diagram) (Is Are : Property) → ((f : Function) → Is f 
 stop_wider d Is Are wider (Full h) s = (s.0, missing_wider d Is Are wider s.1)
 stop_wider d Is Are wider OutOfMemory s = s
 
--- what is wanted for a part of the result is wanted for the whole
-part_prefix : (op : Operation) (d : Diagram) (v : ℕ) (b : Bool) (at : Operands) (p : Function) → IsSound d → Fixes op v → has d.order v ≡ true → AreFrom d v at → IsPart op d (rest d v b at) p → IsPart op d at p
-part_prefix op d v b at p s fixes is below made =
+-- what is wanted for a part of the result, in a larger store, is wanted for the whole
+pub part_of_whole : (op : Operation) (d e : Diagram) (at : Operands) (s : Split) (b : Bool) (to : Operands) → IsSound d → IsSound e → Extends d e → IsParted op d at s → IsPartAt op d at s.var b to → (p : Function) → IsPart op e to p → IsPart op d at p
+part_of_whole op d e at s b to sd se ext parted part p made =
     let r = result_of op d at in
-    let ignores : (u : ℕ) → has (after d.order u) v ≡ true → Ignores r u = λ u lower.
-    fixes.ignores u (function_of d at.f) (function_of d at.g) (function_of d at.h)
-    (ignores_higher d u v at.f s lower below.0) (ignores_higher d u v at.g s lower below.1) (ignores_higher d u v at.h s lower below.2) in
-    prefix_fix d.order v b r p is ignores (has_property (λ w. IsPrefixOf d.order w p) (result_of op d (rest d v b at)) (fix v b r) (sym (fix_result op d v b at s fixes is below)) made)
-
--- the same where the part is made in a larger store
-pub part_of_whole : (op : Operation) (d e : Diagram) (v : ℕ) (b : Bool) (at to : Operands) → IsSound d → IsSound e → Extends d e → Fixes op v → has d.order v ≡ true → AreFrom d v at → to ≡ rest d v b at → (p : Function) → IsPart op e to p → IsPart op d at p
-part_of_whole op d e v b at to sd se ext fixes is below same p made =
-    let live = rest_live d v b at sd is below in
-    let on : result_of op e to ≡ result_of op d (rest d v b at) = ap (result_of op e) same ∙ result_on op d e (rest d v b at) sd se ext live in
-    part_prefix op d v b at p sd fixes is below
-    (has_property (λ w. IsPrefixOf d.order w p) (result_of op e to) (result_of op d (rest d v b at)) on (rw (sym ext.order) made))
+    let on : result_of op e to ≡ fix s.var b r = result_on op d e to sd se ext (below_live d s.var to part.above) ∙ sym part.fixed in
+    prefix_fix d.order s.var b r p parted.var parted.ignores (has_property (λ w. IsPrefixOf d.order w p) (result_of op e to) (fix s.var b r) on (rw (sym ext.order) made))
 
 -- the node of the whole is wanted for the whole, in the store at the start
 pub whole_made : (op : Operation) (d k m : Diagram) (at : Operands) (n : ℕ) → IsSound d → IsSound m → Extends d m → AreLive d at → IsResult op m at n → AddsOnly k m n → MakesOnly k m (IsPart op d at)
@@ -135,7 +124,7 @@ unfolding function_of
 whole_missing op d e m at s low high t same OutOfMemory stop = stop
 whole_missing op d e m at s low high t same (Full h) stop =
     let none : (n : ℕ) → IsLive (requested e) n → function_of (requested e) n ≢ result_of op d at = λ n live eq.
-    no_node e s.var low high n t.sound_e (var_on d e s.var t.extends t.split.var) (step_low op d e at s low high t) (step_high op d e at s low high t) stop.1 live (λ x.
+    no_node e s.var low high n t.sound_e (var_on d e s.var t.extends t.parted.var) (step_low op d e at s low high t) (step_high op d e at s low high t) stop.1 live (λ x.
     at_point (function_of e n) (result_of op d at) eq x ∙ sym (step_choice op d e at s low high t x)) in
     let out : StopIs (requested e) (IsPart op d at) (Full h) =
     (stop.0, record { full = stop.1.full; missing = result_of op d at; is = prefix_self d.order (result_of op d at) (result_of op d at) refl; none = none }) in

@@ -25,7 +25,7 @@ use Rattle.node_store.specs.declared.node.StoreStop.{StoreStop}
 use Rattle.diagram_ops.proofs.Results.{Fixes}
 use Rattle.diagram_ops.proofs.Splits.{three, place_after, left, placed_parts}
 
-put_both : (x : Assignment) (u v : ℕ) (a b : Bool) → u ≢ v → (w : ℕ) → put (put x u a) v b w ≡ put (put x v b) u a w
+pub put_both : (x : Assignment) (u v : ℕ) (a b : Bool) → u ≢ v → (w : ℕ) → put (put x u a) v b w ≡ put (put x v b) u a w
 put_both x u v a b ne w =
     elim (cases_eq w v) [
       | inl e ↦

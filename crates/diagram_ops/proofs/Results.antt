@@ -7,7 +7,7 @@ use Rattle.diagram_model.specs.Functions.{Assignment, Function, put, fix}
 use Rattle.diagram_model.specs.Nodes.{follow, IsLiveIn}
 use Rattle.diagram_model.specs.Stores.{Diagram, IsLive, IsAbove, IsSound, Extends, IsChoice, from, function_of, KeepsFunctions}
 use Rattle.diagram_model.proofs.Extend.{value-extends}
-use Rattle.diagram_model.proofs.Fixing.{follow_above, above_live, depth_follow, depth_falls, from_after, var_above, live_from_order, fix_function}
+use Rattle.diagram_model.proofs.Fixing.{follow_above, above_live, depth_follow, depth_falls, from_after, ignores_higher, var_above, live_from_order, fix_function}
 use Rattle.diagram_model.proofs.Growing.{live_on, above_on, above_back, depth_on, function_on}
 use Rattle.diagram_model.proofs.Prefixes.{Ignores}
 use Rattle.diagram_model.proofs.Values.{live-wider}
@@ -59,19 +59,8 @@ pub record Fixes (op : Operation) (v : ℕ) : Type 0 where
   pub ignores : (u : ℕ) (f g h : Function) → Ignores f u → Ignores g u → Ignores h u → Ignores (op f g h) u
 
 -- what is left of nodes
-pub rest_live : (d : Diagram) (v : ℕ) (b : Bool) (at : Operands) → IsSound d → has d.order v ≡ true → AreFrom d v at → AreLive d (rest d v b at)
-rest_live d v b at s is below = (
-  above_live d v (follow d.slots v b at.f) (follow_above d v at.f b s is below.0),
-  above_live d v (follow d.slots v b at.g) (follow_above d v at.g b s is below.1),
-  above_live d v (follow d.slots v b at.h) (follow_above d v at.h b s is below.2),
-)
-
-pub rest_above : (d e : Diagram) (v : ℕ) (b : Bool) (at : Operands) → IsSound d → Extends d e → has d.order v ≡ true → AreFrom d v at → AreAbove e v (rest d v b at)
-rest_above d e v b at s ext is below = (
-  above_on d e v (follow d.slots v b at.f) ext (follow_above d v at.f b s is below.0),
-  above_on d e v (follow d.slots v b at.g) ext (follow_above d v at.g b s is below.1),
-  above_on d e v (follow d.slots v b at.h) ext (follow_above d v at.h b s is below.2),
-)
+pub rest_above : (d : Diagram) (v : ℕ) (b : Bool) (at : Operands) → IsSound d → has d.order v ≡ true → AreFrom d v at → AreAbove d v (rest d v b at)
+rest_above d v b at s is below = (follow_above d v at.f b s is below.0, follow_above d v at.g b s is below.1, follow_above d v at.h b s is below.2)
 
 -- fixing the topmost variable in the result leaves the result on what is left of the nodes
 pub fix_result : (op : Operation) (d : Diagram) (v : ℕ) (b : Bool) (at : Operands) → IsSound d → Fixes op v → has d.order v ≡ true → AreFrom d v at → fix v b (result_of op d at) ≡ result_of op d (rest d v b at)
@@ -82,12 +71,32 @@ fix_result op d v b at s fixes is below =
     ∙ ap (λ (w : Function). op (function_of d (follow d.slots v b at.f)) w (fix v b (function_of d at.h))) (of at.g below.1)
     ∙ ap (λ (w : Function). op (function_of d (follow d.slots v b at.f)) (function_of d (follow d.slots v b at.g)) w) (of at.h below.2)
 
-put_same : (x : Assignment) (v : ℕ) (b : Bool) → x v ≡ b → put x v b ≡ x
+pub put_same : (x : Assignment) (v : ℕ) (b : Bool) → x v ≡ b → put x v b ≡ x
 put_same x v b is =
     fun_ext (λ w. elim (cases_eq w v) [
       | inl e ↦ cond-true (eqb w v) b (x w) (eq-eqb w v e) ∙ sym is ∙ ap x (sym e)
       | inr ne ↦ cond-false (eqb w v) b (x w) (ne_eqb w v ne)
     ])
+
+-- the nodes `to` have the operation's result with v fixed to b, and stand below v
+pub record IsPartAt (op : Operation) (d : Diagram) (at : Operands) (v : ℕ) (b : Bool) (to : Operands) : Type 0 where
+  pub above : AreAbove d v to
+  pub falls : depths d to < depths d at
+  pub fixed : fix v b (result_of op d at) ≡ result_of op d to
+
+-- the result is parted by the topmost variable of the nodes
+pub record IsParted (op : Operation) (d : Diagram) (at : Operands) (s : Split) : Type 0 where
+  pub var : has d.order s.var ≡ true
+  pub some : SomeHas d s.var at
+  pub ignores : (u : ℕ) → has (after d.order u) s.var ≡ true → Ignores (result_of op d at) u
+  pub low : IsPartAt op d at s.var false s.low
+  pub high : IsPartAt op d at s.var true s.high
+
+areabove_on : (d e : Diagram) (v : ℕ) (at : Operands) → Extends d e → AreAbove d v at → AreAbove e v at
+areabove_on d e v at ext above = (above_on d e v at.f ext above.0, above_on d e v at.g ext above.1, above_on d e v at.h ext above.2)
+
+pub below_live : (d : Diagram) (v : ℕ) (at : Operands) → AreAbove d v at → AreLive d at
+below_live d v at above = (above_live d v at.f above.0, above_live d v at.g above.1, above_live d v at.h above.2)
 
 -- two parts are made: d is the store at the start, e the one that has both
 pub record IsStep (op : Operation) (d e : Diagram) (at : Operands) (s : Split) (low high : ℕ) : Type 0 where
@@ -95,8 +104,7 @@ pub record IsStep (op : Operation) (d e : Diagram) (at : Operands) (s : Split) (
   pub sound_e : IsSound e
   pub extends : Extends d e
   pub live : AreLive d at
-  pub split : IsSplit d at s
-  pub fixes : Fixes op s.var
+  pub parted : IsParted op d at s
   pub of_low : IsResult op e s.low low
   pub of_high : IsResult op e s.high high
 
@@ -105,23 +113,22 @@ var_on d e v ext is = ap (λ o. has o v) ext.order ∙ is
 
 module _ (op : Operation) (d e : Diagram) (at : Operands) (s : Split) (low high : ℕ) (t : IsStep op d e at s low high) where
   pub step_low : IsAbove e s.var low
-  step_low = t.of_low.below s.var (var_on d e s.var t.extends t.split.var) (rw t.split.low (rest_above d e s.var false at t.sound_d t.extends t.split.var t.split.below))
+  step_low = t.of_low.below s.var (var_on d e s.var t.extends t.parted.var) (areabove_on d e s.var s.low t.extends t.parted.low.above)
 
   pub step_high : IsAbove e s.var high
-  step_high = t.of_high.below s.var (var_on d e s.var t.extends t.split.var) (rw t.split.high (rest_above d e s.var true at t.sound_d t.extends t.split.var t.split.below))
+  step_high = t.of_high.below s.var (var_on d e s.var t.extends t.parted.var) (areabove_on d e s.var s.high t.extends t.parted.high.above)
 
-  part_value : (m : ℕ) (b : Bool) (to : Operands) → IsResult op e to m → to ≡ rest d s.var b at → (x : Assignment) → x s.var ≡ b → function_of e m x ≡ result_of op d at x
-  part_value m b to of same x is =
-      let live : AreLive d to = rw same (rest_live d s.var b at t.sound_d t.split.var t.split.below) in
-      ap (λ (w : Function). w x) (of.denotes ∙ result_on op d e to t.sound_d t.sound_e t.extends live ∙ ap (result_of op d) same ∙ sym (fix_result op d s.var b at t.sound_d t.fixes t.split.var t.split.below))
+  part_value : (m : ℕ) (b : Bool) (to : Operands) → IsResult op e to m → IsPartAt op d at s.var b to → (x : Assignment) → x s.var ≡ b → function_of e m x ≡ result_of op d at x
+  part_value m b to of part x is =
+      ap (λ (w : Function). w x) (of.denotes ∙ result_on op d e to t.sound_d t.sound_e t.extends (below_live d s.var to part.above) ∙ sym part.fixed)
       ∙ ap (result_of op d at) (put_same x s.var b is)
 
   -- both parts, chosen by the variable, are the result
   pub step_choice : (x : Assignment) → function_of e (cond (x s.var) high low) x ≡ result_of op d at x
   step_choice x =
       elim (cases_Bool (x s.var)) [
-        | inl y ↦ ap (λ m. function_of e m x) (cond-true (x s.var) high low y) ∙ part_value high true s.high t.of_high t.split.high x y
-        | inr y ↦ ap (λ m. function_of e m x) (cond-false (x s.var) high low y) ∙ part_value low false s.low t.of_low t.split.low x y
+        | inl y ↦ ap (λ m. function_of e m x) (cond-true (x s.var) high low y) ∙ part_value high true s.high t.of_high t.parted.high x y
+        | inr y ↦ ap (λ m. function_of e m x) (cond-false (x s.var) high low y) ∙ part_value low false s.low t.of_low t.parted.low x y
       ]
 
 some_below : (d : Diagram) (w v : ℕ) (at : Operands) → IsSound d → SomeHas d v at → AreAbove d w at → has (after d.order w) v ≡ true
@@ -141,10 +148,10 @@ step_result op d e k at s low high n t sk ek dk node choice =
     ] in
     record {
       operands = lives_on d k at dk t.live;
-      live = live_from_order k s.var n (var_on d k s.var dk t.split.var) node_from;
+      live = live_from_order k s.var n (var_on d k s.var dk t.parted.var) node_from;
       below = λ w is above.
           let back : AreAbove d w at = (above_back d k w at.f dk t.live.0 above.0, above_back d k w at.g dk t.live.1 above.1, above_back d k w at.h dk t.live.2 above.2) in
-          let below : has (after k.order w) s.var ≡ true = ap (λ o. has (after o w) s.var) dk.order ∙ some_below d w s.var at t.sound_d t.split.some back in
+          let below : has (after k.order w) s.var ≡ true = ap (λ o. has (after o w) s.var) dk.order ∙ some_below d w s.var at t.sound_d t.parted.some back in
           live-wider k.slots (from k.order s.var) (after k.order w) n (λ u h. from_after (length k.order) k.order w s.var u sk.diagram.order below h) node_from;
       denotes =
           fun_ext (λ x. choice x ∙ value-extends e k (cond (x s.var) high low) t.sound_e sk ek (live_part x) x ∙ step_choice op d e at s low high t x)
@@ -161,3 +168,17 @@ pub depths_fall : (d : Diagram) (v : ℕ) (b : Bool) (at : Operands) → IsSound
 depths_fall d v b at s (inl h) = let p = depth_falls d v at.f b s h in let q = depth_follow d v at.g b s in let r = depth_follow d v at.h b s in omega (arith, p, q, r)
 depths_fall d v b at s (inr (inl h)) = let p = depth_follow d v at.f b s in let q = depth_falls d v at.g b s h in let r = depth_follow d v at.h b s in omega (arith, p, q, r)
 depths_fall d v b at s (inr (inr h)) = let p = depth_follow d v at.f b s in let q = depth_follow d v at.g b s in let r = depth_falls d v at.h b s h in omega (arith, p, q, r)
+
+-- an operation that goes through the topmost variable is parted by it
+pub parted : (op : Operation) (d : Diagram) (at : Operands) (s : Split) → IsSound d → IsSplit d at s → Fixes op s.var → IsParted op d at s
+parted op d at s sd split fixes =
+    let fixed = λ (b : Bool). fix_result op d s.var b at sd fixes split.var split.below in
+    record {
+      var = split.var;
+      some = split.some;
+      ignores = λ u lower.
+          fixes.ignores u (function_of d at.f) (function_of d at.g) (function_of d at.h)
+          (ignores_higher d u s.var at.f sd lower split.below.0) (ignores_higher d u s.var at.g sd lower split.below.1) (ignores_higher d u s.var at.h sd lower split.below.2);
+      low = rw split.low (record { above = rest_above d s.var false at sd split.var split.below; falls = depths_fall d s.var false at sd split.some; fixed = fixed false });
+      high = rw split.high (record { above = rest_above d s.var true at sd split.var split.below; falls = depths_fall d s.var true at sd split.some; fixed = fixed true });
+    }

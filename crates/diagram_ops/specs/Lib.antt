@@ -1,8 +1,10 @@
 pub mod Connectives
 pub mod Diagrams
+pub mod Flips
 pub mod Lending
 pub mod Made
 pub mod Operands
 pub mod Operations
 pub mod Seen
 pub mod Short
+pub mod Taken

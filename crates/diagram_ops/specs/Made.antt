@@ -8,7 +8,7 @@ use Rattle.node_store.specs.declared.node.StoreStop.{StoreStop}
 use Rattle.node_store.specs.declared.node.StoreStop.TheVariants.{Full, OutOfMemory}
 use Rattle.memos.specs.Memo.{Triple}
 use Rattle.diagram_ops.specs.declared.operands.Operands.{Operands}
-use Rattle.diagram_ops.specs.Operations.{Operation, result_of, AreResults, KeepsHigher}
+use Rattle.diagram_ops.specs.Operations.{Operation, result_of, kept_for, AreResults, KeepsHigher}
 
 -- a property of functions
 abbrev pub Property : Type 1
@@ -46,3 +46,4 @@ pub record Keeps (op : Operation) (at : Operands) (old new : Diagram) (before la
   pub results : AreResults op new later
   pub higher : KeepsHigher old at before later
   pub made : MakesOnly old new (IsPart op old at)
+  pub still : (to : Operands) (n : ℕ) → kept_for before to ≡ Some n → kept_for later to ≡ Some n

@@ -5,6 +5,7 @@ ghost use Rattle.diagram_ops.specs.Connectives.{connected};
 ghost use Rattle.diagram_ops.specs.Made.{StopIs, IsPart, Keeps};
 ghost use Rattle.diagram_ops.specs.Operands.{AreLive};
 ghost use Rattle.diagram_ops.specs.Operations.{IsResult, AreResults};
+ghost use Rattle.diagram_ops.specs.Taken.{Takes, TakesAll};
 
 use crate::operands::Operands;
 use crate::short::short_cut;
@@ -30,8 +31,8 @@ pub fn connect<L: Ledger>(
     ensures keeps { Keeps (connected table) at store.old store.new memo.old memo.new }
     ensures result { IfOk result (λ n. IsResult (connected table) store.new at n.0) }
     ensures stop { IfErr result (StopIs store.new (IsPart (connected table) store.old at)) }
-    ensures steps { OnOk result (steps.new + length memo.old ≡ steps.old + length memo.new) }
-    ensures stop_steps { OnErr result (steps.new + length memo.old ≤ steps.old + length memo.new + 1) }
+    ensures steps { OnOk result (TakesAll store.old at store.new memo.old memo.new steps.old steps.new) }
+    ensures stop_steps { OnErr result (Takes store.old at store.new memo.old steps.old steps.new) }
 {
     if let Some(short) = short_cut(table, at) {
         return Ok(Node(short));

@@ -1,16 +1,19 @@
 //! A store with the cache of its connectives.
-ghost use Rattle.std.specs.Prelude.{◌≡◌, ◌∷◌, [], ◌<◌, ◌≤◌, IfOk, OnOk, OnErr, IfErr, IfSome, length, take};
+ghost use Rattle.std.specs.Prelude.{◌≡◌, ◌∷◌, [], ◌+◌, ◌<◌, ◌≤◌, IfOk, OnOk, OnErr, IfErr, IfSome, length, take};
 ghost use Rattle.std.specs.Borrow.{sem};
 ghost use Rattle.std.specs.List.{range_with_len};
 ghost use Rattle.computed_cache.specs.Entries.{value_at};
 ghost use Rattle.diagram_model.specs.Functions.{IsPrefixOf, fix};
 ghost use Rattle.diagram_model.specs.Stores.{held, IsLive, Extends, KeepsFunctions, AddsOnly, NoRoom, function_of, counted, requested};
 ghost use Rattle.diagram_ops.specs.Diagrams.{IsConsistent, IsHit, key_of, connective_of, variable_of};
+ghost use Rattle.diagram_ops.specs.Flips.{exchanged, flipping_of};
 ghost use Rattle.diagram_ops.specs.Lending.{lends_store};
 ghost use Rattle.diagram_ops.specs.Made.{MakesOnly, StopIs};
+ghost use Rattle.diagram_ops.specs.Taken.{joint_size_of, size_of};
 ghost use Rattle.node_store.specs.Makes.{StopMeans};
 
 use crate::connect::connect;
+use crate::flipped::connect_flipped;
 use crate::operands::Operands;
 use crate::restrict::restrict;
 use bit_lists::OutOfMemory;
@@ -21,6 +24,9 @@ use std::alloc::Global;
 use std::marker::{Brand, Model};
 use std::sync::ledger::{Blank, Ledger};
 use steps::Steps;
+
+/// The table that is the second of three where the first is true, else the third.
+const CHOICE: u8 = 202;
 
 /// A store of nodes, with a cache of the answers of connectives.
 ///
@@ -160,12 +166,74 @@ impl Diagrams {
         ensures stop { IfErr result (StopIs self.new.store (IsPrefixOf self.old.store.order (fix var bit (function_of self.old.store f.0)))) }
         ensures extends { Extends self.old.store self.new.store }
         ensures functions { KeepsFunctions self.old.store self.new.store }
+        ensures steps { steps.new ≤ steps.old + size_of self.old.store f.0 }
         ensures cache { self.new.cache ≡ self.old.cache }
         ensures sound { IsConsistent self.new }
     {
         let _held = self.store.held();
         self.memo.begin();
         restrict(&mut self.store, &mut self.memo, var, bit, f.0, steps)
+    }
+
+    /// The function that f is with a variable flipped where c holds, and f itself elsewhere, in one walk.
+    ///
+    /// Takes expected time in the pairs of nodes above the variable, and the triples below it, that are
+    /// met. Doesn't ask the cache.
+    pub fn exchange<L: Ledger>(
+        &mut self,
+        c: Node,
+        f: Node,
+        var: u8,
+        steps: &mut Steps<L>,
+    ) -> Result<Node, StoreStop>
+        requires c { IsLive self.old.store c.0 }
+        requires f { IsLive self.old.store f.0 }
+        requires var { var < length self.old.store.order }
+        ensures live { IfOk result (λ n. IsLive self.new.store n.0) }
+        ensures denotes { IfOk result (λ n. function_of self.new.store n.0 ≡ exchanged var (function_of self.old.store c.0) (function_of self.old.store f.0)) }
+        ensures made { MakesOnly self.old.store self.new.store (IsPrefixOf self.old.store.order (exchanged var (function_of self.old.store c.0) (function_of self.old.store f.0))) }
+        ensures stop { IfErr result (StopIs self.new.store (IsPrefixOf self.old.store.order (exchanged var (function_of self.old.store c.0) (function_of self.old.store f.0)))) }
+        ensures extends { Extends self.old.store self.new.store }
+        ensures functions { KeepsFunctions self.old.store self.new.store }
+        ensures cache { self.new.cache ≡ self.old.cache }
+        ensures sound { IsConsistent self.new }
+    {
+        self.apply3_flipped::<CHOICE, _>(c, f, f, var, steps)
+    }
+
+    /// The connective of three functions by the table T, with a variable flipped in the second one.
+    ///
+    /// Makes no node of the flipped function. Takes expected time in the triples of nodes that are met.
+    /// Doesn't ask the cache.
+    pub fn apply3_flipped<const T: u8, L: Ledger>(
+        &mut self,
+        f: Node,
+        g: Node,
+        h: Node,
+        var: u8,
+        steps: &mut Steps<L>,
+    ) -> Result<Node, StoreStop>
+        requires f { IsLive self.old.store f.0 }
+        requires g { IsLive self.old.store g.0 }
+        requires h { IsLive self.old.store h.0 }
+        requires var { var < length self.old.store.order }
+        ensures live { IfOk result (λ n. IsLive self.new.store n.0) }
+        ensures denotes { IfOk result (λ n. function_of self.new.store n.0 ≡ flipping_of T var self.old.store f.0 g.0 h.0) }
+        ensures made { MakesOnly self.old.store self.new.store (IsPrefixOf self.old.store.order (flipping_of T var self.old.store f.0 g.0 h.0)) }
+        ensures stop { IfErr result (StopIs self.new.store (IsPrefixOf self.old.store.order (flipping_of T var self.old.store f.0 g.0 h.0))) }
+        ensures extends { Extends self.old.store self.new.store }
+        ensures functions { KeepsFunctions self.old.store self.new.store }
+        ensures cache { self.new.cache ≡ self.old.cache }
+        ensures sound { IsConsistent self.new }
+    {
+        let _held = self.store.held();
+        self.memo.begin();
+        let at = Operands {
+            f: f.0,
+            g: g.0,
+            h: h.0,
+        };
+        connect_flipped(&mut self.store, &mut self.memo, T, var, at, steps)
     }
 
     /// The connective of three functions by the table T: bit 4f + 2g + h of T is its value where the
@@ -192,6 +260,7 @@ impl Diagrams {
         ensures functions { KeepsFunctions self.old.store self.new.store }
         ensures first { IfOk result (λ n. take 1 self.new.cache.entries ≡ (key_of T f.0 g.0 h.0, n.0) ∷ []) }
         ensures hit { IfSome (value_at self.old.cache.entries (key_of T f.0 g.0 h.0)) (λ n. IsHit self.old self.new n result × (steps.new ≡ steps.old)) }
+        ensures steps { steps.new ≤ steps.old + joint_size_of self.old.store f.0 g.0 h.0 }
         ensures capacity { self.new.cache.capacity ≡ self.old.cache.capacity }
         ensures sound { IsConsistent self.new }
     {

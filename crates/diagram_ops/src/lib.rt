@@ -1,10 +1,11 @@
-//! Operations on the functions of a store: connectives of three functions by a table, and cofactors.
+//! Operations on the functions of a store: connectives of three functions by a table, cofactors, and exchange in place.
 //!
 //! `Diagrams` holds a store with the cache of its connectives, and is what the crates above call.
 #![tactic(auto)]
 
 mod connect;
 mod diagrams;
+mod flipped;
 mod operands;
 mod restrict;
 mod short;

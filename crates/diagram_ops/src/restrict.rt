@@ -4,6 +4,7 @@ ghost use Rattle.diagram_model.specs.Stores.{IsSound, IsLive};
 ghost use Rattle.diagram_ops.specs.Made.{StopIs, IsPart, Keeps};
 ghost use Rattle.diagram_ops.specs.Operands.{alone};
 ghost use Rattle.diagram_ops.specs.Operations.{restricted, IsResult, AreResults};
+ghost use Rattle.diagram_ops.specs.Taken.{Takes, TakesAll};
 
 use crate::split::Seen;
 use memos::Memo;
@@ -29,8 +30,8 @@ pub fn restrict<L: Ledger>(
     ensures keeps { Keeps (restricted var bit) (alone f) store.old store.new memo.old memo.new }
     ensures result { IfOk result (λ n. IsResult (restricted var bit) store.new (alone f) n.0) }
     ensures stop { IfErr result (StopIs store.new (IsPart (restricted var bit) store.old (alone f))) }
-    ensures steps { OnOk result (steps.new + length memo.old ≡ steps.old + length memo.new) }
-    ensures stop_steps { OnErr result (steps.new + length memo.old ≤ steps.old + length memo.new + 1) }
+    ensures steps { OnOk result (TakesAll store.old (alone f) store.new memo.old memo.new steps.old steps.new) }
+    ensures stop_steps { OnErr result (Takes store.old (alone f) store.new memo.old steps.old steps.new) }
 {
     let seen = Seen::new(store, f);
     let place = store.place_of(var) as u16;

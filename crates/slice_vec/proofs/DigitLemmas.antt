@@ -1,12 +1,13 @@
 -- The values of sums, negations, choices and cofactors.
 use Rattle.std.proofs.Common.{◌≡◌, ℕ, zero, suc, ◌+◌, ◌*◌, ◌^◌, pos, ◌+ℤ◌, ◌-ℤ◌, neg_ℤ, Bool, true, false, cond, inl, inr, refl, sym, ◌∙◌, ap, arith}
-use Rattle.std.specs.Prelude.{◌&&◌}
+use Rattle.std.specs.Prelude.{◌&&◌, not}
 use Rattle.std.proofs.lemmas.Int.{ints}
 use Rattle.std.proofs.lemmas.Bool.{cases_Bool}
 use mathlib.Core.Path.{fun_ext}
 use Rattle.diagram_model.specs.Functions.{Assignment, Function, fix, put}
 use Rattle.diagram_ops.specs.Connectives.{number}
-use Rattle.slice_vec.specs.Digits.{Digits, low_sum, slice_value, IsSteady, xor, majority_bit, odd_bit, majority, odd, carry, sum, xor_of, and_of, flipped, one_carry, negated, choice, chosen, fixed}
+use Rattle.diagram_ops.specs.Flips.{exchanged}
+use Rattle.slice_vec.specs.Digits.{Digits, low_sum, slice_value, IsSteady, xor, majority_bit, odd_bit, majority, odd, carry, sum, xor_of, and_of, less, flipped, one_carry, negated, choice, chosen, fixed, turned}
 
 -- one place of a sum, p times
 full_adder : (p : ℕ) (a b c : Bool) → p * number a + p * number b + p * number c ≡ p * number (odd_bit a b c) + 2 * (p * number (majority_bit a b c))
@@ -180,6 +181,23 @@ pub value_same : (m : ℕ) (a b : Digits) (x : Assignment) → ((i : ℕ) → a 
 unfolding slice_value
 value_same m a b x same = ap (λ l. pos l -ℤ pos (2 ^ m * number (a m x))) (low_sum_same m a b x same) ∙ ap (λ c. pos (low_sum m b x) -ℤ pos (2 ^ m * number c)) (same m)
 
+less_off : (b c : Bool) → c ≡ false → (c && not b) ≡ c
+less_off b c e = ap (λ d. d && not b) e ∙ sym e
+
+less_on_flip : (b c : Bool) → (c && not b) ≡ (xor b true && c)
+less_on_flip true true = refl
+less_on_flip true false = refl
+less_on_flip false true = refl
+less_on_flip false false = refl
+
+-- the next carry is the carry where the bit is false
+pub one_carry-less : (n : Function) (a : Digits) (i : ℕ) → less (one_carry n a i) (a i) ≡ one_carry n a (suc i)
+unfolding less one_carry flipped xor_of and_of
+one_carry-less n a i = fun_ext (λ x. elim (cases_Bool (n x)) [
+  | inl on ↦ less_on_flip (a i x) (one_carry n a i x) ∙ ap (λ b. xor (a i x) b && one_carry n a i x) (sym on)
+  | inr off ↦ less_off (a i x) (one_carry n a i x) (one_carry_off n a x i off) ∙ one_carry_off n a x i off ∙ sym (one_carry_off n a x (suc i) off)
+])
+
 value-negated_on : (k : ℕ) (n : Function) (a : Digits) (x : Assignment) → IsSteady k a → n x ≡ true → slice_value (suc k) (negated n a) x ≡ neg_ℤ (slice_value (suc k) a x)
 unfolding slice_value negated one_carry flipped xor_of and_of
 value-negated_on k n a x sa on =
@@ -250,3 +268,16 @@ low_sum-fixed (suc m) v b a x = ap (λ l. l + 2 ^ m * number (a m (put x v b))) 
 pub value-fixed : (m v : ℕ) (b : Bool) (a : Digits) (x : Assignment) → slice_value m (fixed v b a) x ≡ slice_value m a (put x v b)
 unfolding slice_value fixed
 value-fixed m v b a x = ap (λ l. pos l -ℤ pos (2 ^ m * number (a m (put x v b)))) (low_sum-fixed m v b a x)
+
+pub steady-turned : (k v : ℕ) (n : Function) (a : Digits) → IsSteady k a → IsSteady k (turned v n a)
+unfolding turned
+steady-turned k v n a sa i le = ap (exchanged v n) (sa i le)
+
+low_sum-turned : (m v : ℕ) (n : Function) (a : Digits) (x : Assignment) → low_sum m (turned v n a) x ≡ low_sum m a (put x v (cond (n x) (not (x v)) (x v)))
+unfolding low_sum turned exchanged
+low_sum-turned zero v n a x = refl
+low_sum-turned (suc m) v n a x = ap (λ l. l + 2 ^ m * number (a m (put x v (cond (n x) (not (x v)) (x v))))) (low_sum-turned m v n a x)
+
+pub value-turned : (m v : ℕ) (n : Function) (a : Digits) (x : Assignment) → slice_value m (turned v n a) x ≡ slice_value m a (put x v (cond (n x) (not (x v)) (x v)))
+unfolding slice_value turned exchanged
+value-turned m v n a x = ap (λ l. pos l -ℤ pos (2 ^ m * number (a m (put x v (cond (n x) (not (x v)) (x v)))))) (low_sum-turned m v n a x)

@@ -6,12 +6,13 @@ use Rattle.diagram_model.specs.Stores.{Diagram, IsLive, IsSound, function_of}
 use Rattle.diagram_model.proofs.Growing.{function_on}
 use Rattle.diagram_ops.specs.Diagrams.{Shared, IsConsistent}
 use Rattle.diagram_ops.specs.Made.{Property, StopIs, IsPrefixOfSome}
-use Rattle.slice_vec.specs.Digits.{Digits, IsSteady, choice, chosen, fixed, slice_value}
+use Rattle.diagram_ops.specs.Flips.{exchanged}
+use Rattle.slice_vec.specs.Digits.{Digits, IsSteady, choice, chosen, fixed, turned, slice_value}
 use Rattle.slice_vec.specs.Growing.{Grows, Denotes}
 use Rattle.slice_vec.specs.Places.{choice_at}
-use Rattle.slice_vec.specs.Slices.{digits_of, StandsIn, first_bits, IsChosen, IsFixed}
+use Rattle.slice_vec.specs.Slices.{digits_of, StandsIn, first_bits, IsChosen, IsFixed, turned_point, IsTurned}
 use Rattle.slice_vec.proofs.Bits.{Shows, shows_none, shows_more, shows_digits, shows_stands, steady-digits, steady_later, value_on}
-use Rattle.slice_vec.proofs.DigitLemmas.{value-chosen, steady-chosen, value-fixed, steady-fixed}
+use Rattle.slice_vec.proofs.DigitLemmas.{value-chosen, steady-chosen, value-fixed, steady-fixed, value-turned, steady-turned}
 use Rattle.slice_vec.proofs.Growing.{grows_none, grows_call, stop_call, some_bit, denotes_as, denotes_on, denotes_itself}
 use Rattle.slice_vec.proofs.Places.{false_function}
 
@@ -108,4 +109,58 @@ fixed_done u v t b xs zs hx h len =
           ap (λ (s : Digits). slice_value m s x) digits
           ∙ value-fixed m t b a x
           ∙ value_on (length xs - 1) m a (put x t b) ha (omega (arith, len));
+    }
+
+-- a node that stays has its function
+stays : (u v : Shared) (Is : Property) (n : ℕ) → IsConsistent u → Grows u Is v → IsLive u.store n → Denotes v.store n (function_of u.store n)
+stays u v Is n s g live = denotes_on u v Is n (function_of u.store n) s g (denotes_itself u.store n live)
+
+-- the flipped bit at place i
+pub turned_is : (u v : Shared) (Is : Property) (t n : ℕ) (xs : List ℕ) (i an : ℕ) → IsConsistent u → Grows u Is v → IsLive u.store n → Denotes v.store an (digits_of u.store xs i) → exchanged t (function_of v.store n) (function_of v.store an) ≡ turned t (function_of u.store n) (digits_of u.store xs) i
+unfolding turned
+turned_is u v Is t n xs i an s g live a =
+    ap (λ (f : Function). exchanged t f (function_of v.store an)) (stays u v Is n s g live).is
+    ∙ ap (exchanged t (function_of u.store n)) a.is
+
+pub turned_live : (u v : Shared) (Is : Property) (n : ℕ) → IsConsistent u → Grows u Is v → IsLive u.store n → IsLive v.store n
+turned_live u v Is n s g live = (stays u v Is n s g live).live
+
+-- FALSE stays FALSE
+pub turned_none : (d : Diagram) (t n : ℕ) → IsSound d → Denotes d 0 (exchanged t (function_of d n) (function_of d 0))
+unfolding exchanged
+turned_none d t n s =
+    let none = false_function d s in
+    record { live = inl (omega arith); is = none ∙ ap (exchanged t (function_of d n)) (sym none) }
+
+-- what is known of the bit below, in the store of this place
+pub turned_below : (u v : Shared) (Is : Property) (t n a m : ℕ) → IsConsistent u → Grows u Is v → IsLive u.store n → Denotes v.store m (exchanged t (function_of u.store n) (function_of v.store a)) → Denotes v.store m (exchanged t (function_of v.store n) (function_of v.store a))
+turned_below u v Is t n a m s g live h =
+    denotes_as v.store m (exchanged t (function_of u.store n) (function_of v.store a)) (exchanged t (function_of v.store n) (function_of v.store a))
+    (ap (λ (f : Function). exchanged t f (function_of v.store a)) (sym (stays u v Is n s g live).is)) h
+
+-- what was made is known in the store after it
+pub turned_next : (u v w : Shared) (Was Is : Property) (t n a m : ℕ) → IsConsistent u → Grows u Was v → Grows v Is w → IsLive u.store n → IsLive v.store a → Denotes w.store m (exchanged t (function_of v.store n) (function_of v.store a)) → Denotes w.store m (exchanged t (function_of u.store n) (function_of w.store a))
+turned_next u v w Was Is t n a m s first g ln la h =
+    denotes_as w.store m (exchanged t (function_of v.store n) (function_of v.store a)) (exchanged t (function_of u.store n) (function_of w.store a))
+    (ap (λ (f : Function). exchanged t f (function_of v.store a)) (stays u v Was n s first ln).is
+    ∙ ap (exchanged t (function_of u.store n)) (sym (function_on v.store w.store a first.sound.store g.sound.store g.extends la))) h
+
+pub turned_done : (u v : Shared) (t n : ℕ) (xs zs : List ℕ) → StandsIn u.store xs → Follows u (length xs) (turned t (function_of u.store n) (digits_of u.store xs)) v zs → length zs ≡ length xs → IsTurned u.store v.store t n xs zs
+turned_done u v t n xs zs hx h len =
+    let f = function_of u.store n in
+    let a = digits_of u.store xs in
+    let m = length zs - 1 in
+    let some : 0 < length zs = omega (arith, len, hx.some) in
+    let few : length zs ≤ 131 = omega (arith, len, hx.few) in
+    let ha = steady-digits u.store xs hx.some in
+    let steady : IsSteady m (turned t f a) = steady-turned m t f a (steady_later (length xs - 1) m a ha (omega (arith, len))) in
+    let digits : digits_of v.store zs ≡ turned t f a = shows_digits v.store zs (turned t f a) h.shows some steady in
+    record {
+      width = len;
+      stands = shows_stands v.store zs (turned t f a) h.shows some few;
+      digits = digits;
+      values = λ x.
+          ap (λ (s : Digits). slice_value m s x) digits
+          ∙ value-turned m t f a x
+          ∙ value_on (length xs - 1) m a (turned_point t f x) ha (omega (arith, len));
     }

@@ -1,8 +1,8 @@
 pub mod Bits
 pub mod DigitLemmas
-pub mod Flips
 pub mod Followed
 pub mod Growing
+pub mod Joined
 pub mod Negations
 pub mod Numbers
 pub mod Parities

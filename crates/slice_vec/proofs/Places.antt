@@ -1,6 +1,6 @@
 -- One place of a sum, by connectives.
 use Rattle.std.proofs.Common.{◌≡◌, ℕ, Bool, true, false, cond, List, Result, Ok, Err, IfOk, IfErr, inl, inr, refl, sym, ◌∙◌, ap, arith, length}
-use Rattle.std.specs.Prelude.{◌&&◌}
+use Rattle.std.specs.Prelude.{◌&&◌, not}
 use mathlib.Core.Path.{fun_ext}
 use Rattle.node_store.specs.declared.node.Node.{Node}
 use Rattle.node_store.specs.declared.node.StoreStop.{StoreStop}
@@ -12,9 +12,9 @@ use Rattle.diagram_ops.specs.Connectives.{connective, connected}
 use Rattle.diagram_ops.specs.Diagrams.{Shared, IsConsistent}
 use Rattle.diagram_ops.specs.Made.{Property, MakesOnly, StopIs}
 use Rattle.slice_vec.specs.declared.place.Pair.{Pair}
-use Rattle.slice_vec.specs.Digits.{xor, majority_bit, odd_bit, majority, odd, xor_of, and_of, choice}
+use Rattle.slice_vec.specs.Digits.{xor, majority_bit, odd_bit, majority, odd, xor_of, and_of, less, choice}
 use Rattle.slice_vec.specs.Growing.{Grows, Denotes}
-use Rattle.slice_vec.specs.Places.{IsPair, odd_at, majority_at, choice_at}
+use Rattle.slice_vec.specs.Places.{IsPair, odd_at, majority_at, less_at, choice_at}
 
 -- the tables
 odd_table : (a b c : Bool) → connective 150 a b c ≡ odd_bit a b c
@@ -133,28 +133,43 @@ majority_on v w Is a b c s g la lb lc =
     let on = λ (n : ℕ) (live : IsLive v.store n). function_on v.store w.store n s.store g.sound.store g.extends live in
     majority_same (function_of w.store a) (function_of w.store b) (function_of w.store c) (function_of v.store a) (function_of v.store b) (function_of v.store c) (on a la) (on b lb) (on c lc)
 
--- with FALSE in the third place
-odd_half : (a b : Bool) → odd_bit a b false ≡ xor a b
-odd_half true true = refl
-odd_half true false = refl
-odd_half false true = refl
-odd_half false false = refl
+-- one where another isn't
+less_table : (a b : Bool) → connective 48 a b false ≡ (a && not b)
+unfolding connective
+less_table true true = refl
+less_table true false = refl
+less_table false true = refl
+less_table false false = refl
 
-majority_half : (a b : Bool) → majority_bit a b false ≡ (a && b)
-majority_half true true = refl
-majority_half true false = refl
-majority_half false true = refl
-majority_half false false = refl
+pub connected-less : (d : Diagram) (f g : ℕ) → IsSound d → connected 48 (function_of d f) (function_of d g) (function_of d 0) ≡ less_at d f g
+unfolding connected less
+connected-less d f g s =
+    ap (λ (h : Function). connected 48 (function_of d f) (function_of d g) h) (false_function d s)
+    ∙ fun_ext (λ x. less_table (function_of d f x) (function_of d g x))
 
-pub odd-xor : (d : Diagram) (n m : ℕ) (f g : Function) → IsSound d → function_of d n ≡ f → function_of d m ≡ g → odd_at d n m 0 ≡ xor_of f g
-unfolding odd xor_of
-odd-xor d n m f g s ef eg =
-    odd_same (function_of d n) (function_of d m) (function_of d 0) f g (λ x. false) ef eg (false_function d s) ∙ fun_ext (λ x. odd_half (f x) (g x))
+pub less_same : (f g f2 g2 : Function) → f ≡ f2 → g ≡ g2 → less f g ≡ less f2 g2
+less_same f g f2 g2 ef eg = ap (λ (w : Function). less w g) ef ∙ ap (λ (w : Function). less f2 w) eg
 
-pub majority-and : (d : Diagram) (n m : ℕ) (f g : Function) → IsSound d → function_of d n ≡ f → function_of d m ≡ g → majority_at d n m 0 ≡ and_of f g
-unfolding majority and_of
-majority-and d n m f g s ef eg =
-    majority_same (function_of d n) (function_of d m) (function_of d 0) f g (λ x. false) ef eg (false_function d s) ∙ fun_ext (λ x. majority_half (f x) (g x))
+pub less_on : (v w : Shared) (Is : Property) (f g : ℕ) → IsConsistent v → Grows v Is w → IsLive v.store f → IsLive v.store g → less_at w.store f g ≡ less_at v.store f g
+less_on v w Is f g s h lf lg =
+    let on = λ (n : ℕ) (live : IsLive v.store n). function_on v.store w.store n s.store h.sound.store h.extends live in
+    less_same (function_of w.store f) (function_of w.store g) (function_of v.store f) (function_of v.store g) (on f lf) (on g lg)
+
+less_kept : (a : Bool) → a ≡ (a && not false)
+less_kept true = refl
+less_kept false = refl
+
+pub less_none : (d : Diagram) (f g : ℕ) → IsSound d → IsLive d f → f ≡ 0 → Denotes d f (less_at d f g)
+unfolding less
+less_none d f g s live e =
+    let off : function_of d f ≡ (λ x. false) = ap (function_of d) e ∙ false_function d s in
+    record { live = live; is = off ∙ sym (ap (λ (h : Function). less h (function_of d g)) off) }
+
+pub less_all : (d : Diagram) (f g : ℕ) → IsSound d → IsLive d f → g ≡ 0 → Denotes d f (less_at d f g)
+unfolding less
+less_all d f g s live e =
+    let off : function_of d g ≡ (λ x. false) = ap (function_of d) e ∙ false_function d s in
+    record { live = live; is = fun_ext (λ x. less_kept (function_of d f x)) ∙ sym (ap (λ (h : Function). less (function_of d f) h) off) }
 
 -- the table of a choice
 choice_table : (n a b : Bool) → connective 202 n a b ≡ cond n a b

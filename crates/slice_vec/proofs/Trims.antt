@@ -6,7 +6,7 @@ use Rattle.diagram_model.specs.Functions.{Assignment}
 use Rattle.diagram_model.specs.Stores.{Diagram, IsLive, IsSound, function_of}
 use Rattle.diagram_model.proofs.Canonical.{same_node}
 use Rattle.slice_vec.specs.Digits.{Digits, slice_value, IsSteady}
-use Rattle.slice_vec.specs.Slices.{bit_node, digits_of, value_at, StandsIn, SameValues, IsSame, IsFewest}
+use Rattle.slice_vec.specs.Slices.{bit_node, digits_of, value_at, StandsIn, SameValues, IsSame, IsFewest, IsWithin, AreWithin}
 use Rattle.slice_vec.specs.Trims.{IsTrimmed}
 use Rattle.slice_vec.proofs.Bits.{lt_or_le, bit_within, bit_beyond, bit_live, steady-digits, value_on}
 use Rattle.slice_vec.proofs.Ranges.{InRange, value-in_range, range-wider, sign-repeated}
@@ -92,5 +92,41 @@ module _ (xs : List ℕ) (w : ℕ) (some : 0 < length xs) (t : IsTrimmed xs w) w
             let at : w ≡ suc (suc k) = omega (arith, less, two) in
             let high : w - 1 ≡ suc k = omega (arith, at) in
             let one = one_node d (bit_node xs (suc k)) (bit_node xs k) s (bit_live d xs (suc k) h) (bit_live d xs k h) (too_few d ns s h hn same k at (omega (arith, less, at))) in
+            absurd (t.differ (omega (arith, less, two)) (ap (bit_node xs) high ∙ one))
+      ]
+
+  -- the sign is repeated from bit w - 1 on
+  trimmed_steady : (d : Diagram) → IsSteady (w - 1) (digits_of d xs)
+  unfolding digits_of
+  trimmed_steady d i le =
+      let pos = trimmed_some in
+      ap (function_of d) (t.same (suc i) (omega (arith, le, pos)) ∙ sym (t.same i (omega (arith, le, pos))))
+
+  pub within_short : (d : Diagram) (k : ℕ) → w ≤ k → AreWithin d k xs
+  within_short d k le x =
+      let pos = trimmed_some in
+      let e = value_on (w - 1) (length xs - 1) (digits_of d xs) x (trimmed_steady d) (omega (arith, t.within)) in
+      let r : InRange (k - 1) (value_at d xs x) = rw e (range-wider (w - 1) (k - 1) (slice_value (w - 1) (digits_of d xs) x) (omega (arith, le)) (value-in_range (w - 1) (digits_of d xs) x)) in
+      record { low = r.low; high = r.high }
+
+  within_repeats : (d : Diagram) (k j : ℕ) → AreWithin d k xs → w ≡ suc (suc j) → k ≤ suc j → (x : Assignment) → function_of d (bit_node xs (suc j)) x ≡ function_of d (bit_node xs j) x
+  unfolding digits_of
+  within_repeats d k j all at le x =
+      let h = all x in
+      let e = value_on (w - 1) (length xs - 1) (digits_of d xs) x (trimmed_steady d) (omega (arith, t.within)) ∙ ap (λ i. slice_value i (digits_of d xs) x) (let f : w - 1 ≡ suc j = omega (arith, at) in f) in
+      let wide : InRange (k - 1) (value_at d xs x) = record { low = h.low; high = h.high } in
+      let r : InRange j (value_at d xs x) = range-wider (k - 1) j (value_at d xs x) (omega (arith, le)) wide in
+      let fits : InRange j (slice_value (suc j) (digits_of d xs) x) = rw e at r in
+      sign-repeated j (digits_of d xs) x fits
+
+  pub short_within : (d : Diagram) (k : ℕ) → IsSound d → StandsIn d xs → 2 ≤ k → AreWithin d k xs → w ≤ k
+  short_within d k s h two all =
+      elim (lt_or_le k w) [
+        | inr le ↦ le
+        | inl less ↦
+            let j = w - 2 in
+            let at : w ≡ suc (suc j) = omega (arith, less, two) in
+            let high : w - 1 ≡ suc j = omega (arith, at) in
+            let one = one_node d (bit_node xs (suc j)) (bit_node xs j) s (bit_live d xs (suc j) h) (bit_live d xs j h) (within_repeats d k j all at (omega (arith, less, at))) in
             absurd (t.differ (omega (arith, less, two)) (ap (bit_node xs) high ∙ one))
       ]

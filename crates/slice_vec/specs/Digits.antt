@@ -1,6 +1,7 @@
 -- Integers that depend on the values of the variables, by their bits in two's complement.
 use Rattle.std.specs.Prelude.{◌≡◌, ℕ, zero, suc, ◌+◌, ◌*◌, ◌^◌, ◌≤◌, ℤ, pos, ◌-ℤ◌, Bool, false, cond, not, ◌&&◌, ◌||◌}
 use Rattle.diagram_model.specs.Functions.{Assignment, Function, fix}
+use Rattle.diagram_ops.specs.Flips.{exchanged}
 use Rattle.diagram_ops.specs.Connectives.{number}
 
 -- a Boolean function for each bit, lowest first, without end: an integer of m + 1 bits has its sign,
@@ -44,6 +45,10 @@ xor_of f g = λ x. xor (f x) (g x)
 unfoldable pub and_of : Function → Function → Function
 and_of f g = λ x. f x && g x
 
+-- f where g is false
+unfoldable pub less : Function → Function → Function
+less f g = λ x. f x && not (g x)
+
 -- the carries of a sum: the first is false, and the next is the majority of the two bits and the carry
 unfoldable pub carry : Digits → Digits → Digits
 carry a b zero = λ x. false
@@ -76,6 +81,10 @@ chosen n a b i = choice n (a i) (b i)
 -- the bits with the variable v fixed to b
 unfoldable pub fixed : ℕ → Bool → Digits → Digits
 fixed v b a i = fix v b (a i)
+
+-- the bits with the variable v flipped where n is true
+unfoldable pub turned : ℕ → Function → Digits → Digits
+turned v n a i = exchanged v n (a i)
 
 -- the bits without the lowest
 unfoldable pub shifted : Digits → Digits

@@ -1,9 +1,10 @@
 -- What a list of nodes stands for, lowest bit first and the sign last.
-use Rattle.std.specs.Prelude.{◌≡◌, ℕ, zero, suc, ◌+◌, ◌-◌, ◌<◌, ◌≤◌, ℤ, ◌+ℤ◌, neg_ℤ, Bool, cond, List, [], ◌∷◌, ◌++◌, length, slice_index_or, max}
+use Rattle.std.specs.Prelude.{◌≡◌, ℕ, zero, suc, ◌+◌, ◌-◌, ◌<◌, ◌≤◌, ◌^◌, ℤ, pos, ◌+ℤ◌, ◌≤ℤ◌, ◌<ℤ◌, neg_ℤ, Bool, cond, not, List, [], ◌∷◌, ◌++◌, length, slice_index_or, max}
 use Rattle.diagram_model.specs.Functions.{Assignment, Function, put}
 use Rattle.diagram_model.specs.Stores.{Diagram, IsLive, function_of}
+use Rattle.diagram_ops.specs.Diagrams.{variable_of}
 use Rattle.diagram_ops.specs.Made.{Property, IsPrefixOfSome}
-use Rattle.slice_vec.specs.Digits.{Digits, slice_value, carry, sum, flipped, one_carry, negated, chosen, fixed, shifted}
+use Rattle.slice_vec.specs.Digits.{Digits, slice_value, carry, sum, one_carry, negated, chosen, fixed, turned, shifted}
 
 -- the node of the sign
 abbrev pub sign_node : List ℕ → ℕ
@@ -36,9 +37,9 @@ first_bits (suc n) s = s n ∷ first_bits n s
 abbrev pub sum_functions : ℕ → Digits → Digits → List Function
 sum_functions w a b = first_bits w (carry a b) ++ first_bits w (sum a b)
 
--- the functions of a negation to w bits: the flipped bits, the carries and the bits
+-- the functions of a negation to w bits: the carries and the bits
 abbrev pub negation_functions : ℕ → Function → Digits → List Function
-negation_functions w n a = first_bits w (flipped n a) ++ (first_bits w (one_carry n a) ++ first_bits w (negated n a))
+negation_functions w n a = first_bits w (one_carry n a) ++ first_bits w (negated n a)
 
 -- one bit more than the wider one
 abbrev pub sum_width : List ℕ → List ℕ → ℕ
@@ -59,6 +60,14 @@ InChosen d n xs ys = IsPrefixOfSome d.order (first_bits (max (length xs) (length
 -- the same for the bits of xs with the variable v fixed to b
 abbrev pub InFixed : Diagram → ℕ → Bool → List ℕ → Property
 InFixed d v b xs = IsPrefixOfSome d.order (first_bits (length xs) (fixed v b (digits_of d xs)))
+
+-- the same for the bits of xs with the variable v flipped where n is true
+abbrev pub InTurned : Diagram → ℕ → ℕ → List ℕ → Property
+InTurned d v n xs = IsPrefixOfSome d.order (first_bits (length xs) (turned v (function_of d n) (digits_of d xs)))
+
+-- the same for the bits of xs where the variable v is true, and of ys elsewhere, both with v fixed
+abbrev pub InMerged : Diagram → ℕ → Bool → List ℕ → List ℕ → Property
+InMerged d v b xs ys = IsPrefixOfSome d.order (first_bits (max (length xs) (length ys)) (chosen (variable_of v) (fixed v b (digits_of d xs)) (fixed v b (digits_of d ys))))
 
 -- zs is the sum of xs and ys
 pub record IsSum (old new : Diagram) (xs ys zs : List ℕ) : Type 0 where
@@ -87,6 +96,23 @@ pub record IsFixed (old new : Diagram) (v : ℕ) (b : Bool) (xs zs : List ℕ) :
   pub stands : StandsIn new zs
   pub digits : digits_of new zs ≡ fixed v b (digits_of old xs)
   pub values : (x : Assignment) → value_at new zs x ≡ value_at old xs (put x v b)
+
+-- x with v flipped where n is true
+abbrev pub turned_point : ℕ → Function → Assignment → Assignment
+turned_point v n x = put x v (cond (n x) (not (x v)) (x v))
+
+-- zs is xs with the variable v flipped where n is true
+pub record IsTurned (old new : Diagram) (v n : ℕ) (xs zs : List ℕ) : Type 0 where
+  pub width : length zs ≡ length xs
+  pub stands : StandsIn new zs
+  pub digits : digits_of new zs ≡ turned v (function_of old n) (digits_of old xs)
+  pub values : (x : Assignment) → value_at new zs x ≡ value_at old xs (turned_point v (function_of old n) x)
+
+-- zs is xs where the variable v is true, and ys elsewhere, both with v fixed to b
+pub record IsMerged (old new : Diagram) (v : ℕ) (b : Bool) (xs ys zs : List ℕ) : Type 0 where
+  pub width : length zs ≡ max (length xs) (length ys)
+  pub stands : StandsIn new zs
+  pub digits : digits_of new zs ≡ chosen (variable_of v) (fixed v b (digits_of old xs)) (fixed v b (digits_of old ys))
 
 -- the integers are the same at each x
 abbrev pub SameValues : Diagram → List ℕ → List ℕ → Type 0
@@ -118,3 +144,12 @@ pub record IsShifted (d : Diagram) (ns ms : List ℕ) : Type 0 where
 -- the integer of ns is twice that of ms
 abbrev pub IsDouble : Diagram → List ℕ → List ℕ → Type 0
 IsDouble d ns ms = (x : Assignment) → value_at d ns x ≡ value_at d ms x +ℤ value_at d ms x
+
+-- a signed number of w bits
+pub record IsWithin (w : ℕ) (v : ℤ) : Type 0 where
+  pub low : neg_ℤ (pos (2 ^ (w - 1))) ≤ℤ v
+  pub high : v <ℤ pos (2 ^ (w - 1))
+
+-- the integer is a signed number of w bits at each x
+abbrev pub AreWithin : Diagram → ℕ → List ℕ → Type 0
+AreWithin d w ns = (x : Assignment) → IsWithin w (value_at d ns x)

@@ -6,6 +6,8 @@
 
 mod choice;
 mod cofactors;
+mod exchange;
+mod merging;
 mod negation;
 mod parity;
 mod place;
@@ -17,10 +19,12 @@ mod sum;
 
 pub use choice::select;
 pub use cofactors::fix;
+pub use exchange::flip_where;
+pub use merging::select_fixed;
 pub use negation::negate_where;
 pub use parity::{all_even, halve};
 pub use reading::value_at;
-pub use shape::{trim, zero};
+pub use shape::{fits, trim, zero};
 pub use slices::Slices;
 pub use sum::add;
 

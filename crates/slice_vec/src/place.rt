@@ -5,10 +5,10 @@ ghost use Rattle.diagram_model.specs.Stores.{IsLive};
 ghost use Rattle.diagram_ops.specs.Diagrams.{IsConsistent};
 ghost use Rattle.diagram_ops.specs.Made.{StopIs, IsPrefixOfSome};
 ghost use Rattle.slice_vec.specs.Growing.{Grows, Denotes};
-ghost use Rattle.slice_vec.specs.Places.{IsPair, odd_at, majority_at};
+ghost use Rattle.slice_vec.specs.Places.{IsPair, odd_at, majority_at, less_at};
 
 use diagram_ops::Diagrams;
-use node_store::{Node, StoreStop};
+use node_store::{FALSE, Node, StoreStop};
 use std::sync::ledger::Ledger;
 use steps::Steps;
 
@@ -17,6 +17,9 @@ const ODD: u8 = 150;
 
 /// The table that is true where at least two of three are true.
 const MAJORITY: u8 = 232;
+
+/// The table that is true where the first of three is and the second isn't.
+const LESS: u8 = 48;
 
 /// Two nodes of three that are one, and the third.
 #[derive(Clone, Copy, Drop)]
@@ -111,5 +114,50 @@ pub fn add_bits<L: Ledger>(
 {
     let bit = odd(d, a, b, c, steps)?;
     let carry = majority(d, a, b, c, steps)?;
+    Ok(Place { bit, carry })
+}
+
+/// Where `f` is true and `g` isn't.
+fn less<L: Ledger>(
+    d: &mut Diagrams,
+    f: Node,
+    g: Node,
+    steps: &mut Steps<L>,
+) -> Result<Node, StoreStop>
+    requires sound { IsConsistent d.old }
+    requires f { IsLive d.old.store f.0 }
+    requires g { IsLive d.old.store g.0 }
+    ensures grows { Grows d.old (IsPrefixOf d.old.store.order (less_at d.old.store f.0 g.0)) d.new }
+    ensures node { IfOk result (λ n. Denotes d.new.store n.0 (less_at d.old.store f.0 g.0)) }
+    ensures stop { IfErr result (StopIs d.new.store (IsPrefixOf d.old.store.order (less_at d.old.store f.0 g.0))) }
+{
+    if f == FALSE {
+        return Ok(f);
+    }
+    if g == FALSE {
+        return Ok(f);
+    }
+    d.apply3::<LESS, _>(f, g, FALSE, steps)
+}
+
+/// A bit that is flipped where `n` is true, plus a carry that is true there only: the bit and the next carry.
+pub fn negate_bits<L: Ledger>(
+    d: &mut Diagrams,
+    a: Node,
+    n: Node,
+    c: Node,
+    steps: &mut Steps<L>,
+) -> Result<Place, StoreStop>
+    requires sound { IsConsistent d.old }
+    requires a { IsLive d.old.store a.0 }
+    requires n { IsLive d.old.store n.0 }
+    requires c { IsLive d.old.store c.0 }
+    ensures grows { Grows d.old (IsPrefixOfSome d.old.store.order (odd_at d.old.store a.0 n.0 c.0 ∷ less_at d.old.store c.0 a.0 ∷ [])) d.new }
+    ensures bit { IfOk result (λ r. Denotes d.new.store r.bit.0 (odd_at d.old.store a.0 n.0 c.0)) }
+    ensures carry { IfOk result (λ r. Denotes d.new.store r.carry.0 (less_at d.old.store c.0 a.0)) }
+    ensures stop { IfErr result (StopIs d.new.store (IsPrefixOfSome d.old.store.order (odd_at d.old.store a.0 n.0 c.0 ∷ less_at d.old.store c.0 a.0 ∷ []))) }
+{
+    let bit = odd(d, a, n, c, steps)?;
+    let carry = less(d, c, a, steps)?;
     Ok(Place { bit, carry })
 }

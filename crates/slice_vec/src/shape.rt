@@ -2,7 +2,7 @@
 ghost use Rattle.std.specs.Prelude.{◌≡◌, ℕ, ◌+◌, ◌-◌, ◌<◌, ◌≤◌, ◌↔◌, IfOk, IsTrue, List, length, pos, replicate, take};
 ghost use Rattle.diagram_model.specs.Functions.{Assignment};
 ghost use Rattle.diagram_model.specs.Stores.{Diagram, IsSound};
-ghost use Rattle.slice_vec.specs.Slices.{StandsIn, IsSame, IsFewest, bit_node, value_at};
+ghost use Rattle.slice_vec.specs.Slices.{StandsIn, IsSame, IsFewest, AreWithin, bit_node, value_at};
 ghost use Rattle.slice_vec.specs.Trims.{IsTrimmed};
 
 use crate::slices::Slices;
@@ -54,4 +54,13 @@ pub fn trim(x: &mut Slices)
 {
     let width = trimmed_width(x);
     x.bits.truncate(width);
+}
+
+/// Whether the integer is a signed number of `width` bits for each assignment of the variables.
+pub fn fits(x: &Slices, width: u8) -> bool
+    requires some { 0 < length x.now }
+    requires two { 2 ≤ width }
+    ensures { (d : Diagram) → IsSound d → StandsIn d x.now → IsTrue result ↔ AreWithin d width x.now }
+{
+    trimmed_width(x) <= width as usize
 }

@@ -332,7 +332,7 @@ fn of_bit(rt: &impl Abort, alloc: Global, bit: Node) -> Slices
 }
 
 /// The sum of two variables, which needs five nodes, or one negated where the other is true, which
-/// needs six.
+/// needs four.
 fn two_variables<L: Ledger>(
     rt: &impl Abort,
     alloc: Global,
@@ -367,7 +367,7 @@ fn check_limit<L: Ledger>(rt: &impl Abort, alloc: Global, limit: u32, negates: b
     let Ok(mut d) = Diagrams::new(alloc, 2, limit, 8) else {
         panic!(rt; "no memory");
     };
-    let needed = if negates { 6 } else { 5 };
+    let needed = if negates { 4 } else { 5 };
     match two_variables(rt, alloc, &mut d, negates, &mut steps) {
         Ok(x) => {
             assert!(rt; limit >= needed);

@@ -4,10 +4,12 @@ use Rattle.diagram_ops.specs.Connectives.{connected}
 use Rattle.diagram_ops.specs.Made.{StopIs, IsPart, Keeps}
 use Rattle.diagram_ops.specs.Operands.{depths}
 use Rattle.diagram_ops.specs.Operations.{IsResult, kept_for}
-use Rattle.diagram_ops.proofs.Calls.{Begins, low_live, low_falls, keeps_low, stop_low, high_live, high_falls, keeps_both, stop_high, still_none, unmet_before, both_made, keeps_refused, keeps_node, keeps_put}
+use Rattle.diagram_ops.specs.Taken.{Takes}
+use Rattle.diagram_ops.proofs.Calls.{Begins, begins, low_live, low_falls, keeps_low, stop_low, high_live, high_falls, keeps_both, stop_high, still_none, unmet_before, both_made, keeps_refused, keeps_node, keeps_put}
 use Rattle.diagram_ops.proofs.Connecting.{connected_fixes, short_result}
 use Rattle.diagram_ops.proofs.Making.{whole_missing}
 use Rattle.diagram_ops.proofs.Results.{IsStep, step_low, step_high, step_result}
+use Rattle.diagram_ops.proofs.Taking.{at_stop, takes_none, takes_low, takes_both, takes_all, takes_whole, takes_put}
 use Rattle.diagram_ops.proofs.connect.+connect.Goals as goal
 
 pub returns-in-Some-clause-result : goal.returns-in-Some-clause-result
@@ -24,7 +26,7 @@ connect-requires g t c κs within =
     let d = c.args.store.now in
     let at = c.args.at in
     let s = c.new-split.result in
-    let b : Begins op d at s = record { sound = c.requires.sound; live = c.requires.live; split = c.new-split.ensures; fixes = connected_fixes c.args.table s.var } in
+    let b : Begins op d at s = begins op d at s c.requires.sound c.requires.live c.new-split.ensures (connected_fixes c.args.table s.var) in
     let less : depths d s.low < depths d at = low_falls op d at s b in
     let q = c.decreases in
     (omega (arith, less, q), (within, (c.requires.sound, (low_live op d at s b, c.requires.results))))
@@ -35,7 +37,7 @@ returns-in_err-low-clause-keeps g t c =
     let d = c.args.store.now in
     let at = c.args.at in
     let s = c.new-split.result in
-    let b : Begins op d at s = record { sound = c.requires.sound; live = c.requires.live; split = c.new-split.ensures; fixes = connected_fixes c.args.table s.var } in
+    let b : Begins op d at s = begins op d at s c.requires.sound c.requires.live c.new-split.ensures (connected_fixes c.args.table s.var) in
     let e = c.connect.new.store in
     let m0 = c.args.memo.now in
     let m1 = c.connect.new.memo in
@@ -47,7 +49,7 @@ returns-in_err-low-clause-stop g t c =
     let d = c.args.store.now in
     let at = c.args.at in
     let s = c.new-split.result in
-    let b : Begins op d at s = record { sound = c.requires.sound; live = c.requires.live; split = c.new-split.ensures; fixes = connected_fixes c.args.table s.var } in
+    let b : Begins op d at s = begins op d at s c.requires.sound c.requires.live c.new-split.ensures (connected_fixes c.args.table s.var) in
     let e = c.connect.new.store in
     let m0 = c.args.memo.now in
     let m1 = c.connect.new.memo in
@@ -60,7 +62,7 @@ connect-requires-2 g t c κs within =
     let d = c.args.store.now in
     let at = c.args.at in
     let s = c.new-split.result in
-    let b : Begins op d at s = record { sound = c.requires.sound; live = c.requires.live; split = c.new-split.ensures; fixes = connected_fixes c.args.table s.var } in
+    let b : Begins op d at s = begins op d at s c.requires.sound c.requires.live c.new-split.ensures (connected_fixes c.args.table s.var) in
     let e = c.connect.new.store in
     let m0 = c.args.memo.now in
     let m1 = c.connect.new.memo in
@@ -74,7 +76,7 @@ returns-in_err-high-clause-keeps g t c =
     let d = c.args.store.now in
     let at = c.args.at in
     let s = c.new-split.result in
-    let b : Begins op d at s = record { sound = c.requires.sound; live = c.requires.live; split = c.new-split.ensures; fixes = connected_fixes c.args.table s.var } in
+    let b : Begins op d at s = begins op d at s c.requires.sound c.requires.live c.new-split.ensures (connected_fixes c.args.table s.var) in
     let e = c.connect.new.store in
     let m0 = c.args.memo.now in
     let m1 = c.connect.new.memo in
@@ -88,7 +90,7 @@ returns-in_err-high-clause-stop g t c =
     let d = c.args.store.now in
     let at = c.args.at in
     let s = c.new-split.result in
-    let b : Begins op d at s = record { sound = c.requires.sound; live = c.requires.live; split = c.new-split.ensures; fixes = connected_fixes c.args.table s.var } in
+    let b : Begins op d at s = begins op d at s c.requires.sound c.requires.live c.new-split.ensures (connected_fixes c.args.table s.var) in
     let e = c.connect.new.store in
     let m0 = c.args.memo.now in
     let m1 = c.connect.new.memo in
@@ -103,7 +105,7 @@ make-requires-clause-low g t c =
     let d = c.args.store.now in
     let at = c.args.at in
     let s = c.new-split.result in
-    let b : Begins op d at s = record { sound = c.requires.sound; live = c.requires.live; split = c.new-split.ensures; fixes = connected_fixes c.args.table s.var } in
+    let b : Begins op d at s = begins op d at s c.requires.sound c.requires.live c.new-split.ensures (connected_fixes c.args.table s.var) in
     let e = c.connect.new.store in
     let m0 = c.args.memo.now in
     let m1 = c.connect.new.memo in
@@ -121,7 +123,7 @@ make-requires-clause-high g t c =
     let d = c.args.store.now in
     let at = c.args.at in
     let s = c.new-split.result in
-    let b : Begins op d at s = record { sound = c.requires.sound; live = c.requires.live; split = c.new-split.ensures; fixes = connected_fixes c.args.table s.var } in
+    let b : Begins op d at s = begins op d at s c.requires.sound c.requires.live c.new-split.ensures (connected_fixes c.args.table s.var) in
     let e = c.connect.new.store in
     let m0 = c.args.memo.now in
     let m1 = c.connect.new.memo in
@@ -139,7 +141,7 @@ returns-in_err-node-clause-keeps g t c =
     let d = c.args.store.now in
     let at = c.args.at in
     let s = c.new-split.result in
-    let b : Begins op d at s = record { sound = c.requires.sound; live = c.requires.live; split = c.new-split.ensures; fixes = connected_fixes c.args.table s.var } in
+    let b : Begins op d at s = begins op d at s c.requires.sound c.requires.live c.new-split.ensures (connected_fixes c.args.table s.var) in
     let e = c.connect.new.store in
     let m0 = c.args.memo.now in
     let m1 = c.connect.new.memo in
@@ -157,7 +159,7 @@ returns-in_err-node-clause-stop g t c =
     let d = c.args.store.now in
     let at = c.args.at in
     let s = c.new-split.result in
-    let b : Begins op d at s = record { sound = c.requires.sound; live = c.requires.live; split = c.new-split.ensures; fixes = connected_fixes c.args.table s.var } in
+    let b : Begins op d at s = begins op d at s c.requires.sound c.requires.live c.new-split.ensures (connected_fixes c.args.table s.var) in
     let e = c.connect.new.store in
     let m0 = c.args.memo.now in
     let m1 = c.connect.new.memo in
@@ -176,7 +178,7 @@ add-requires g t c =
     let d = c.args.store.now in
     let at = c.args.at in
     let s = c.new-split.result in
-    let b : Begins op d at s = record { sound = c.requires.sound; live = c.requires.live; split = c.new-split.ensures; fixes = connected_fixes c.args.table s.var } in
+    let b : Begins op d at s = begins op d at s c.requires.sound c.requires.live c.new-split.ensures (connected_fixes c.args.table s.var) in
     let e = c.connect.new.store in
     let m0 = c.args.memo.now in
     let m1 = c.connect.new.memo in
@@ -192,7 +194,7 @@ returns-in_err-add-clause-keeps g t c =
     let d = c.args.store.now in
     let at = c.args.at in
     let s = c.new-split.result in
-    let b : Begins op d at s = record { sound = c.requires.sound; live = c.requires.live; split = c.new-split.ensures; fixes = connected_fixes c.args.table s.var } in
+    let b : Begins op d at s = begins op d at s c.requires.sound c.requires.live c.new-split.ensures (connected_fixes c.args.table s.var) in
     let e = c.connect.new.store in
     let m0 = c.args.memo.now in
     let m1 = c.connect.new.memo in
@@ -214,7 +216,7 @@ returns-clause-keeps g t c =
     let d = c.args.store.now in
     let at = c.args.at in
     let s = c.new-split.result in
-    let b : Begins op d at s = record { sound = c.requires.sound; live = c.requires.live; split = c.new-split.ensures; fixes = connected_fixes c.args.table s.var } in
+    let b : Begins op d at s = begins op d at s c.requires.sound c.requires.live c.new-split.ensures (connected_fixes c.args.table s.var) in
     let e = c.connect.new.store in
     let m0 = c.args.memo.now in
     let m1 = c.connect.new.memo in
@@ -228,7 +230,9 @@ returns-clause-keeps g t c =
     let node = c.in_ok-node.node.0 in
     let is : IsResult op m at node = step_result op d k m at s low high node step c.make.ensures.sound c.make.ensures.extends (extends_trans d k m kept.extends c.make.ensures.extends) c.in_ok-node.ensures.live c.in_ok-node.ensures.denotes in
     let made : Keeps op at d m m0 m2 = keeps_node op at d k m node m0 m2 b.sound b.live kept c.make.ensures.sound c.make.ensures.extends is c.in_ok-node.ensures.only in
-    keeps_put op at d m node m0 m2 c.add.new.self made is c.in_ok-add.ensures.here c.add.ensures.others
+    let none : kept_for m0 at ≡ None = unmet_before m0 at c.find.result c.find.ensures c.in_default-find.is in
+    let unmet = still_none op d at s b e m0 m1 c.connect.ensures.keeps k m2 c.connect-2.ensures.keeps none in
+    keeps_put op at d m node m0 m2 c.add.new.self made is unmet c.in_ok-add.ensures.here c.add.ensures.others
 
 pub returns-clause-result : goal.returns-clause-result
 returns-clause-result g t c =
@@ -236,7 +240,7 @@ returns-clause-result g t c =
     let d = c.args.store.now in
     let at = c.args.at in
     let s = c.new-split.result in
-    let b : Begins op d at s = record { sound = c.requires.sound; live = c.requires.live; split = c.new-split.ensures; fixes = connected_fixes c.args.table s.var } in
+    let b : Begins op d at s = begins op d at s c.requires.sound c.requires.live c.new-split.ensures (connected_fixes c.args.table s.var) in
     let e = c.connect.new.store in
     let m0 = c.args.memo.now in
     let m1 = c.connect.new.memo in
@@ -251,3 +255,117 @@ returns-clause-result g t c =
     let is : IsResult op m at node = step_result op d k m at s low high node step c.make.ensures.sound c.make.ensures.extends (extends_trans d k m kept.extends c.make.ensures.extends) c.in_ok-node.ensures.live c.in_ok-node.ensures.denotes in
     let made : Keeps op at d m m0 m2 = keeps_node op at d k m node m0 m2 b.sound b.live kept c.make.ensures.sound c.make.ensures.extends is c.in_ok-node.ensures.only in
     is
+
+pub returns-in-Some-clause-steps : goal.returns-in-Some-clause-steps
+returns-in-Some-clause-steps g t c =
+    takes_none c.args.store.now c.args.at c.args.store.now c.args.memo.now c.args.steps.now
+
+pub returns-in-Some-find-clause-steps : goal.returns-in-Some-find-clause-steps
+returns-in-Some-find-clause-steps g t c =
+    takes_none c.args.store.now c.args.at c.args.store.now c.args.memo.now c.args.steps.now
+
+pub returns-in_err-low-clause-stop_steps : goal.returns-in_err-low-clause-stop_steps
+returns-in_err-low-clause-stop_steps g t c =
+    let op = connected c.args.table in
+    let d = c.args.store.now in
+    let at = c.args.at in
+    let s = c.new-split.result in
+    let b : Begins op d at s = begins op d at s c.requires.sound c.requires.live c.new-split.ensures (connected_fixes c.args.table s.var) in
+    let e = c.connect.new.store in
+    let m0 = c.args.memo.now in
+    let m1 = c.connect.new.memo in
+    let s0 = c.args.steps.now in
+    let s1 = c.connect.new.steps in
+    let taken : Takes d at e m0 s0 s1 = takes_low op d at s b c.new-split.ensures e m0 s0 s1 c.in_err-low.ensures.stop_steps in
+    at_stop c.from_residual.result (Takes d at e m0 s0 s1) taken
+
+pub returns-in_err-high-clause-stop_steps : goal.returns-in_err-high-clause-stop_steps
+returns-in_err-high-clause-stop_steps g t c =
+    let op = connected c.args.table in
+    let d = c.args.store.now in
+    let at = c.args.at in
+    let s = c.new-split.result in
+    let b : Begins op d at s = begins op d at s c.requires.sound c.requires.live c.new-split.ensures (connected_fixes c.args.table s.var) in
+    let e = c.connect.new.store in
+    let m0 = c.args.memo.now in
+    let m1 = c.connect.new.memo in
+    let s0 = c.args.steps.now in
+    let s1 = c.connect.new.steps in
+    let k = c.connect-2.new.store in
+    let m2 = c.connect-2.new.memo in
+    let s2 = c.connect-2.new.steps in
+    let first = c.connect.ensures.keeps in
+    let second = c.connect-2.ensures.keeps in
+    let taken : Takes d at k m0 s0 s2 = takes_both op d at s b c.new-split.ensures e m0 m1 s0 s1 first c.in_ok-low.ensures.steps k m2 s2 second c.in_err-high.ensures.stop_steps in
+    at_stop c.from_residual-in_err-high.result (Takes d at k m0 s0 s2) taken
+
+pub returns-in_err-node-clause-stop_steps : goal.returns-in_err-node-clause-stop_steps
+returns-in_err-node-clause-stop_steps g t c =
+    let op = connected c.args.table in
+    let d = c.args.store.now in
+    let at = c.args.at in
+    let s = c.new-split.result in
+    let b : Begins op d at s = begins op d at s c.requires.sound c.requires.live c.new-split.ensures (connected_fixes c.args.table s.var) in
+    let e = c.connect.new.store in
+    let m0 = c.args.memo.now in
+    let m1 = c.connect.new.memo in
+    let s0 = c.args.steps.now in
+    let s1 = c.connect.new.steps in
+    let k = c.connect-2.new.store in
+    let m2 = c.connect-2.new.memo in
+    let s2 = c.connect-2.new.steps in
+    let first = c.connect.ensures.keeps in
+    let second = c.connect-2.ensures.keeps in
+    let none : kept_for m0 at ≡ None = unmet_before m0 at c.find.result c.find.ensures c.in_default-find.is in
+    let unmet = still_none op d at s b e m0 m1 first k m2 second none in
+    let both = takes_all op d at s b c.new-split.ensures e m0 m1 s0 s1 first c.in_ok-low.ensures.steps k m2 s2 second c.in_ok-high.ensures.steps in
+    let dm = extends_trans d k c.make.new.self (extends_trans d e k first.extends second.extends) c.make.ensures.extends in
+    let taken : Takes d at c.make.new.self m0 s0 c.make.new.steps = takes_whole op d at s b c.new-split.ensures k c.make.new.self m0 m2 s0 s2 c.make.new.steps both second.sound c.make.ensures.sound c.make.ensures.extends dm none unmet c.make.ensures.steps in
+    at_stop c.from_residual-in_err-node.result (Takes d at c.make.new.self m0 s0 c.make.new.steps) taken
+
+pub returns-in_err-add-clause-stop_steps : goal.returns-in_err-add-clause-stop_steps
+returns-in_err-add-clause-stop_steps g t c =
+    let op = connected c.args.table in
+    let d = c.args.store.now in
+    let at = c.args.at in
+    let s = c.new-split.result in
+    let b : Begins op d at s = begins op d at s c.requires.sound c.requires.live c.new-split.ensures (connected_fixes c.args.table s.var) in
+    let e = c.connect.new.store in
+    let m0 = c.args.memo.now in
+    let m1 = c.connect.new.memo in
+    let s0 = c.args.steps.now in
+    let s1 = c.connect.new.steps in
+    let k = c.connect-2.new.store in
+    let m2 = c.connect-2.new.memo in
+    let s2 = c.connect-2.new.steps in
+    let first = c.connect.ensures.keeps in
+    let second = c.connect-2.ensures.keeps in
+    let none : kept_for m0 at ≡ None = unmet_before m0 at c.find.result c.find.ensures c.in_default-find.is in
+    let unmet = still_none op d at s b e m0 m1 first k m2 second none in
+    let both = takes_all op d at s b c.new-split.ensures e m0 m1 s0 s1 first c.in_ok-low.ensures.steps k m2 s2 second c.in_ok-high.ensures.steps in
+    let dm = extends_trans d k c.make.new.self (extends_trans d e k first.extends second.extends) c.make.ensures.extends in
+    let taken : Takes d at c.make.new.self m0 s0 c.make.new.steps = takes_whole op d at s b c.new-split.ensures k c.make.new.self m0 m2 s0 s2 c.make.new.steps both second.sound c.make.ensures.sound c.make.ensures.extends dm none unmet c.make.ensures.steps in
+    at_stop c.from_residual-in_err-add.result (Takes d at c.make.new.self m0 s0 c.make.new.steps) taken
+
+pub returns-clause-steps : goal.returns-clause-steps
+returns-clause-steps g t c =
+    let op = connected c.args.table in
+    let d = c.args.store.now in
+    let at = c.args.at in
+    let s = c.new-split.result in
+    let b : Begins op d at s = begins op d at s c.requires.sound c.requires.live c.new-split.ensures (connected_fixes c.args.table s.var) in
+    let e = c.connect.new.store in
+    let m0 = c.args.memo.now in
+    let m1 = c.connect.new.memo in
+    let s0 = c.args.steps.now in
+    let s1 = c.connect.new.steps in
+    let k = c.connect-2.new.store in
+    let m2 = c.connect-2.new.memo in
+    let s2 = c.connect-2.new.steps in
+    let first = c.connect.ensures.keeps in
+    let second = c.connect-2.ensures.keeps in
+    let none : kept_for m0 at ≡ None = unmet_before m0 at c.find.result c.find.ensures c.in_default-find.is in
+    let unmet = still_none op d at s b e m0 m1 first k m2 second none in
+    let both = takes_all op d at s b c.new-split.ensures e m0 m1 s0 s1 first c.in_ok-low.ensures.steps k m2 s2 second c.in_ok-high.ensures.steps in
+    let dm = extends_trans d k c.make.new.self (extends_trans d e k first.extends second.extends) c.make.ensures.extends in
+    takes_put op d at s b c.new-split.ensures k c.make.new.self m0 m2 c.add.new.self c.in_ok-node.node.0 s0 s2 c.make.new.steps both second.sound c.make.ensures.sound c.make.ensures.extends dm none unmet c.make.ensures.steps c.in_ok-add.ensures.here c.add.ensures.others

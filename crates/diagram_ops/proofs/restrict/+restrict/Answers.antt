@@ -4,10 +4,12 @@ use Rattle.diagram_ops.specs.declared.split.Seen.{Seen}
 use Rattle.diagram_ops.specs.Made.{StopIs, IsPart, Keeps}
 use Rattle.diagram_ops.specs.Operands.{alone, depths}
 use Rattle.diagram_ops.specs.Operations.{restricted, IsResult, kept_for}
-use Rattle.diagram_ops.proofs.Calls.{Begins, low_live, low_falls, keeps_low, stop_low, high_live, high_falls, keeps_both, stop_high, still_none, unmet_before, both_made, keeps_refused, keeps_node, keeps_put}
+use Rattle.diagram_ops.specs.Taken.{Takes}
+use Rattle.diagram_ops.proofs.Calls.{Begins, begins, low_live, low_falls, keeps_low, stop_low, high_live, high_falls, keeps_both, stop_high, still_none, unmet_before, both_made, keeps_refused, keeps_node, keeps_put}
 use Rattle.diagram_ops.proofs.Making.{whole_missing}
 use Rattle.diagram_ops.proofs.Restricting.{restricted_fixes, restricted_here, alone_split, alone_splits, other_place}
 use Rattle.diagram_ops.proofs.Results.{IsStep, step_low, step_high, step_result, var_on}
+use Rattle.diagram_ops.proofs.Taking.{at_stop, takes_none, takes_low, takes_both, takes_all, takes_whole, takes_put}
 use Rattle.diagram_ops.proofs.restrict.+restrict.Goals as goal
 
 pub returns-then-seen-place-clause-result : goal.returns-then-seen-place-clause-result
@@ -30,7 +32,7 @@ restrict-requires g t c κs within =
     let small : c.place_of-place.result < 256 = omega (arith, c.place_of-place.type_inv) in
     let upper : r.place < c.place_of-place.result = omega (arith, c.if-seen-place.false) in
     let held : r.place < 256 = omega (arith, small, upper) in
-    let b : Begins op d at s = record { sound = c.requires.sound; live = (c.requires.live, inl (omega arith), inl (omega arith)); split = alone_splits d c.args.f r c.requires.sound c.new-seen.ensures held; fixes = restricted_fixes c.args.var c.args.bit r.var (other_place d c.args.f c.args.var r c.new-seen.ensures held (omega (arith, upper, c.place_of-place.ensures.place))) } in
+    let b : Begins op d at s = begins op d at s c.requires.sound (c.requires.live, inl (omega arith), inl (omega arith)) (alone_splits d c.args.f r c.requires.sound c.new-seen.ensures held) (restricted_fixes c.args.var c.args.bit r.var (other_place d c.args.f c.args.var r c.new-seen.ensures held (omega (arith, upper, c.place_of-place.ensures.place)))) in
     let less : depths d s.low < depths d at = low_falls op d at s b in
     let q = c.decreases in
     (omega (arith, less, q), (within, (c.requires.sound, ((low_live op d at s b).0, (c.requires.var, c.requires.results)))))
@@ -45,7 +47,7 @@ returns-in_err-low-clause-keeps g t c =
     let small : c.place_of-place.result < 256 = omega (arith, c.place_of-place.type_inv) in
     let upper : r.place < c.place_of-place.result = omega (arith, c.if-seen-place.false) in
     let held : r.place < 256 = omega (arith, small, upper) in
-    let b : Begins op d at s = record { sound = c.requires.sound; live = (c.requires.live, inl (omega arith), inl (omega arith)); split = alone_splits d c.args.f r c.requires.sound c.new-seen.ensures held; fixes = restricted_fixes c.args.var c.args.bit r.var (other_place d c.args.f c.args.var r c.new-seen.ensures held (omega (arith, upper, c.place_of-place.ensures.place))) } in
+    let b : Begins op d at s = begins op d at s c.requires.sound (c.requires.live, inl (omega arith), inl (omega arith)) (alone_splits d c.args.f r c.requires.sound c.new-seen.ensures held) (restricted_fixes c.args.var c.args.bit r.var (other_place d c.args.f c.args.var r c.new-seen.ensures held (omega (arith, upper, c.place_of-place.ensures.place)))) in
     let e = c.restrict.new.store in
     let m0 = c.args.memo.now in
     let m1 = c.restrict.new.memo in
@@ -61,7 +63,7 @@ returns-in_err-low-clause-stop g t c =
     let small : c.place_of-place.result < 256 = omega (arith, c.place_of-place.type_inv) in
     let upper : r.place < c.place_of-place.result = omega (arith, c.if-seen-place.false) in
     let held : r.place < 256 = omega (arith, small, upper) in
-    let b : Begins op d at s = record { sound = c.requires.sound; live = (c.requires.live, inl (omega arith), inl (omega arith)); split = alone_splits d c.args.f r c.requires.sound c.new-seen.ensures held; fixes = restricted_fixes c.args.var c.args.bit r.var (other_place d c.args.f c.args.var r c.new-seen.ensures held (omega (arith, upper, c.place_of-place.ensures.place))) } in
+    let b : Begins op d at s = begins op d at s c.requires.sound (c.requires.live, inl (omega arith), inl (omega arith)) (alone_splits d c.args.f r c.requires.sound c.new-seen.ensures held) (restricted_fixes c.args.var c.args.bit r.var (other_place d c.args.f c.args.var r c.new-seen.ensures held (omega (arith, upper, c.place_of-place.ensures.place)))) in
     let e = c.restrict.new.store in
     let m0 = c.args.memo.now in
     let m1 = c.restrict.new.memo in
@@ -78,7 +80,7 @@ restrict-requires-2 g t c κs within =
     let small : c.place_of-place.result < 256 = omega (arith, c.place_of-place.type_inv) in
     let upper : r.place < c.place_of-place.result = omega (arith, c.if-seen-place.false) in
     let held : r.place < 256 = omega (arith, small, upper) in
-    let b : Begins op d at s = record { sound = c.requires.sound; live = (c.requires.live, inl (omega arith), inl (omega arith)); split = alone_splits d c.args.f r c.requires.sound c.new-seen.ensures held; fixes = restricted_fixes c.args.var c.args.bit r.var (other_place d c.args.f c.args.var r c.new-seen.ensures held (omega (arith, upper, c.place_of-place.ensures.place))) } in
+    let b : Begins op d at s = begins op d at s c.requires.sound (c.requires.live, inl (omega arith), inl (omega arith)) (alone_splits d c.args.f r c.requires.sound c.new-seen.ensures held) (restricted_fixes c.args.var c.args.bit r.var (other_place d c.args.f c.args.var r c.new-seen.ensures held (omega (arith, upper, c.place_of-place.ensures.place)))) in
     let e = c.restrict.new.store in
     let m0 = c.args.memo.now in
     let m1 = c.restrict.new.memo in
@@ -96,7 +98,7 @@ returns-in_err-high-clause-keeps g t c =
     let small : c.place_of-place.result < 256 = omega (arith, c.place_of-place.type_inv) in
     let upper : r.place < c.place_of-place.result = omega (arith, c.if-seen-place.false) in
     let held : r.place < 256 = omega (arith, small, upper) in
-    let b : Begins op d at s = record { sound = c.requires.sound; live = (c.requires.live, inl (omega arith), inl (omega arith)); split = alone_splits d c.args.f r c.requires.sound c.new-seen.ensures held; fixes = restricted_fixes c.args.var c.args.bit r.var (other_place d c.args.f c.args.var r c.new-seen.ensures held (omega (arith, upper, c.place_of-place.ensures.place))) } in
+    let b : Begins op d at s = begins op d at s c.requires.sound (c.requires.live, inl (omega arith), inl (omega arith)) (alone_splits d c.args.f r c.requires.sound c.new-seen.ensures held) (restricted_fixes c.args.var c.args.bit r.var (other_place d c.args.f c.args.var r c.new-seen.ensures held (omega (arith, upper, c.place_of-place.ensures.place)))) in
     let e = c.restrict.new.store in
     let m0 = c.args.memo.now in
     let m1 = c.restrict.new.memo in
@@ -114,7 +116,7 @@ returns-in_err-high-clause-stop g t c =
     let small : c.place_of-place.result < 256 = omega (arith, c.place_of-place.type_inv) in
     let upper : r.place < c.place_of-place.result = omega (arith, c.if-seen-place.false) in
     let held : r.place < 256 = omega (arith, small, upper) in
-    let b : Begins op d at s = record { sound = c.requires.sound; live = (c.requires.live, inl (omega arith), inl (omega arith)); split = alone_splits d c.args.f r c.requires.sound c.new-seen.ensures held; fixes = restricted_fixes c.args.var c.args.bit r.var (other_place d c.args.f c.args.var r c.new-seen.ensures held (omega (arith, upper, c.place_of-place.ensures.place))) } in
+    let b : Begins op d at s = begins op d at s c.requires.sound (c.requires.live, inl (omega arith), inl (omega arith)) (alone_splits d c.args.f r c.requires.sound c.new-seen.ensures held) (restricted_fixes c.args.var c.args.bit r.var (other_place d c.args.f c.args.var r c.new-seen.ensures held (omega (arith, upper, c.place_of-place.ensures.place)))) in
     let e = c.restrict.new.store in
     let m0 = c.args.memo.now in
     let m1 = c.restrict.new.memo in
@@ -133,14 +135,14 @@ make-requires-clause-var g t c =
     let small : c.place_of-place.result < 256 = omega (arith, c.place_of-place.type_inv) in
     let upper : r.place < c.place_of-place.result = omega (arith, c.if-seen-place.false) in
     let held : r.place < 256 = omega (arith, small, upper) in
-    let b : Begins op d at s = record { sound = c.requires.sound; live = (c.requires.live, inl (omega arith), inl (omega arith)); split = alone_splits d c.args.f r c.requires.sound c.new-seen.ensures held; fixes = restricted_fixes c.args.var c.args.bit r.var (other_place d c.args.f c.args.var r c.new-seen.ensures held (omega (arith, upper, c.place_of-place.ensures.place))) } in
+    let b : Begins op d at s = begins op d at s c.requires.sound (c.requires.live, inl (omega arith), inl (omega arith)) (alone_splits d c.args.f r c.requires.sound c.new-seen.ensures held) (restricted_fixes c.args.var c.args.bit r.var (other_place d c.args.f c.args.var r c.new-seen.ensures held (omega (arith, upper, c.place_of-place.ensures.place)))) in
     let e = c.restrict.new.store in
     let m0 = c.args.memo.now in
     let m1 = c.restrict.new.memo in
     let k = c.restrict-2.new.store in
     let m2 = c.restrict-2.new.memo in
     let kept : Keeps op at d k m0 m2 = keeps_both op d at s b e m0 m1 c.restrict.ensures.keeps k m2 c.restrict-2.ensures.keeps in
-    var_on d k r.var kept.extends b.split.var
+    var_on d k r.var kept.extends b.parted.var
 
 pub make-requires-clause-low : goal.make-requires-clause-low
 make-requires-clause-low g t c =
@@ -152,7 +154,7 @@ make-requires-clause-low g t c =
     let small : c.place_of-place.result < 256 = omega (arith, c.place_of-place.type_inv) in
     let upper : r.place < c.place_of-place.result = omega (arith, c.if-seen-place.false) in
     let held : r.place < 256 = omega (arith, small, upper) in
-    let b : Begins op d at s = record { sound = c.requires.sound; live = (c.requires.live, inl (omega arith), inl (omega arith)); split = alone_splits d c.args.f r c.requires.sound c.new-seen.ensures held; fixes = restricted_fixes c.args.var c.args.bit r.var (other_place d c.args.f c.args.var r c.new-seen.ensures held (omega (arith, upper, c.place_of-place.ensures.place))) } in
+    let b : Begins op d at s = begins op d at s c.requires.sound (c.requires.live, inl (omega arith), inl (omega arith)) (alone_splits d c.args.f r c.requires.sound c.new-seen.ensures held) (restricted_fixes c.args.var c.args.bit r.var (other_place d c.args.f c.args.var r c.new-seen.ensures held (omega (arith, upper, c.place_of-place.ensures.place)))) in
     let e = c.restrict.new.store in
     let m0 = c.args.memo.now in
     let m1 = c.restrict.new.memo in
@@ -174,7 +176,7 @@ make-requires-clause-high g t c =
     let small : c.place_of-place.result < 256 = omega (arith, c.place_of-place.type_inv) in
     let upper : r.place < c.place_of-place.result = omega (arith, c.if-seen-place.false) in
     let held : r.place < 256 = omega (arith, small, upper) in
-    let b : Begins op d at s = record { sound = c.requires.sound; live = (c.requires.live, inl (omega arith), inl (omega arith)); split = alone_splits d c.args.f r c.requires.sound c.new-seen.ensures held; fixes = restricted_fixes c.args.var c.args.bit r.var (other_place d c.args.f c.args.var r c.new-seen.ensures held (omega (arith, upper, c.place_of-place.ensures.place))) } in
+    let b : Begins op d at s = begins op d at s c.requires.sound (c.requires.live, inl (omega arith), inl (omega arith)) (alone_splits d c.args.f r c.requires.sound c.new-seen.ensures held) (restricted_fixes c.args.var c.args.bit r.var (other_place d c.args.f c.args.var r c.new-seen.ensures held (omega (arith, upper, c.place_of-place.ensures.place)))) in
     let e = c.restrict.new.store in
     let m0 = c.args.memo.now in
     let m1 = c.restrict.new.memo in
@@ -196,7 +198,7 @@ returns-in_err-node-clause-keeps g t c =
     let small : c.place_of-place.result < 256 = omega (arith, c.place_of-place.type_inv) in
     let upper : r.place < c.place_of-place.result = omega (arith, c.if-seen-place.false) in
     let held : r.place < 256 = omega (arith, small, upper) in
-    let b : Begins op d at s = record { sound = c.requires.sound; live = (c.requires.live, inl (omega arith), inl (omega arith)); split = alone_splits d c.args.f r c.requires.sound c.new-seen.ensures held; fixes = restricted_fixes c.args.var c.args.bit r.var (other_place d c.args.f c.args.var r c.new-seen.ensures held (omega (arith, upper, c.place_of-place.ensures.place))) } in
+    let b : Begins op d at s = begins op d at s c.requires.sound (c.requires.live, inl (omega arith), inl (omega arith)) (alone_splits d c.args.f r c.requires.sound c.new-seen.ensures held) (restricted_fixes c.args.var c.args.bit r.var (other_place d c.args.f c.args.var r c.new-seen.ensures held (omega (arith, upper, c.place_of-place.ensures.place)))) in
     let e = c.restrict.new.store in
     let m0 = c.args.memo.now in
     let m1 = c.restrict.new.memo in
@@ -218,7 +220,7 @@ returns-in_err-node-clause-stop g t c =
     let small : c.place_of-place.result < 256 = omega (arith, c.place_of-place.type_inv) in
     let upper : r.place < c.place_of-place.result = omega (arith, c.if-seen-place.false) in
     let held : r.place < 256 = omega (arith, small, upper) in
-    let b : Begins op d at s = record { sound = c.requires.sound; live = (c.requires.live, inl (omega arith), inl (omega arith)); split = alone_splits d c.args.f r c.requires.sound c.new-seen.ensures held; fixes = restricted_fixes c.args.var c.args.bit r.var (other_place d c.args.f c.args.var r c.new-seen.ensures held (omega (arith, upper, c.place_of-place.ensures.place))) } in
+    let b : Begins op d at s = begins op d at s c.requires.sound (c.requires.live, inl (omega arith), inl (omega arith)) (alone_splits d c.args.f r c.requires.sound c.new-seen.ensures held) (restricted_fixes c.args.var c.args.bit r.var (other_place d c.args.f c.args.var r c.new-seen.ensures held (omega (arith, upper, c.place_of-place.ensures.place)))) in
     let e = c.restrict.new.store in
     let m0 = c.args.memo.now in
     let m1 = c.restrict.new.memo in
@@ -241,7 +243,7 @@ add-requires g t c =
     let small : c.place_of-place.result < 256 = omega (arith, c.place_of-place.type_inv) in
     let upper : r.place < c.place_of-place.result = omega (arith, c.if-seen-place.false) in
     let held : r.place < 256 = omega (arith, small, upper) in
-    let b : Begins op d at s = record { sound = c.requires.sound; live = (c.requires.live, inl (omega arith), inl (omega arith)); split = alone_splits d c.args.f r c.requires.sound c.new-seen.ensures held; fixes = restricted_fixes c.args.var c.args.bit r.var (other_place d c.args.f c.args.var r c.new-seen.ensures held (omega (arith, upper, c.place_of-place.ensures.place))) } in
+    let b : Begins op d at s = begins op d at s c.requires.sound (c.requires.live, inl (omega arith), inl (omega arith)) (alone_splits d c.args.f r c.requires.sound c.new-seen.ensures held) (restricted_fixes c.args.var c.args.bit r.var (other_place d c.args.f c.args.var r c.new-seen.ensures held (omega (arith, upper, c.place_of-place.ensures.place)))) in
     let e = c.restrict.new.store in
     let m0 = c.args.memo.now in
     let m1 = c.restrict.new.memo in
@@ -261,7 +263,7 @@ returns-in_err-add-clause-keeps g t c =
     let small : c.place_of-place.result < 256 = omega (arith, c.place_of-place.type_inv) in
     let upper : r.place < c.place_of-place.result = omega (arith, c.if-seen-place.false) in
     let held : r.place < 256 = omega (arith, small, upper) in
-    let b : Begins op d at s = record { sound = c.requires.sound; live = (c.requires.live, inl (omega arith), inl (omega arith)); split = alone_splits d c.args.f r c.requires.sound c.new-seen.ensures held; fixes = restricted_fixes c.args.var c.args.bit r.var (other_place d c.args.f c.args.var r c.new-seen.ensures held (omega (arith, upper, c.place_of-place.ensures.place))) } in
+    let b : Begins op d at s = begins op d at s c.requires.sound (c.requires.live, inl (omega arith), inl (omega arith)) (alone_splits d c.args.f r c.requires.sound c.new-seen.ensures held) (restricted_fixes c.args.var c.args.bit r.var (other_place d c.args.f c.args.var r c.new-seen.ensures held (omega (arith, upper, c.place_of-place.ensures.place)))) in
     let e = c.restrict.new.store in
     let m0 = c.args.memo.now in
     let m1 = c.restrict.new.memo in
@@ -287,7 +289,7 @@ returns-clause-keeps g t c =
     let small : c.place_of-place.result < 256 = omega (arith, c.place_of-place.type_inv) in
     let upper : r.place < c.place_of-place.result = omega (arith, c.if-seen-place.false) in
     let held : r.place < 256 = omega (arith, small, upper) in
-    let b : Begins op d at s = record { sound = c.requires.sound; live = (c.requires.live, inl (omega arith), inl (omega arith)); split = alone_splits d c.args.f r c.requires.sound c.new-seen.ensures held; fixes = restricted_fixes c.args.var c.args.bit r.var (other_place d c.args.f c.args.var r c.new-seen.ensures held (omega (arith, upper, c.place_of-place.ensures.place))) } in
+    let b : Begins op d at s = begins op d at s c.requires.sound (c.requires.live, inl (omega arith), inl (omega arith)) (alone_splits d c.args.f r c.requires.sound c.new-seen.ensures held) (restricted_fixes c.args.var c.args.bit r.var (other_place d c.args.f c.args.var r c.new-seen.ensures held (omega (arith, upper, c.place_of-place.ensures.place)))) in
     let e = c.restrict.new.store in
     let m0 = c.args.memo.now in
     let m1 = c.restrict.new.memo in
@@ -301,7 +303,9 @@ returns-clause-keeps g t c =
     let node = c.in_ok-node.node.0 in
     let is : IsResult op m at node = step_result op d k m at s low high node step c.make.ensures.sound c.make.ensures.extends (extends_trans d k m kept.extends c.make.ensures.extends) c.in_ok-node.ensures.live c.in_ok-node.ensures.denotes in
     let made : Keeps op at d m m0 m2 = keeps_node op at d k m node m0 m2 b.sound b.live kept c.make.ensures.sound c.make.ensures.extends is c.in_ok-node.ensures.only in
-    keeps_put op at d m node m0 m2 c.add.new.self made is c.in_ok-add.ensures.here c.add.ensures.others
+    let none : kept_for m0 at ≡ None = unmet_before m0 at c.find.result c.find.ensures c.in_default.is in
+    let unmet = still_none op d at s b e m0 m1 c.restrict.ensures.keeps k m2 c.restrict-2.ensures.keeps none in
+    keeps_put op at d m node m0 m2 c.add.new.self made is unmet c.in_ok-add.ensures.here c.add.ensures.others
 
 pub returns-clause-result : goal.returns-clause-result
 returns-clause-result g t c =
@@ -313,7 +317,7 @@ returns-clause-result g t c =
     let small : c.place_of-place.result < 256 = omega (arith, c.place_of-place.type_inv) in
     let upper : r.place < c.place_of-place.result = omega (arith, c.if-seen-place.false) in
     let held : r.place < 256 = omega (arith, small, upper) in
-    let b : Begins op d at s = record { sound = c.requires.sound; live = (c.requires.live, inl (omega arith), inl (omega arith)); split = alone_splits d c.args.f r c.requires.sound c.new-seen.ensures held; fixes = restricted_fixes c.args.var c.args.bit r.var (other_place d c.args.f c.args.var r c.new-seen.ensures held (omega (arith, upper, c.place_of-place.ensures.place))) } in
+    let b : Begins op d at s = begins op d at s c.requires.sound (c.requires.live, inl (omega arith), inl (omega arith)) (alone_splits d c.args.f r c.requires.sound c.new-seen.ensures held) (restricted_fixes c.args.var c.args.bit r.var (other_place d c.args.f c.args.var r c.new-seen.ensures held (omega (arith, upper, c.place_of-place.ensures.place)))) in
     let e = c.restrict.new.store in
     let m0 = c.args.memo.now in
     let m1 = c.restrict.new.memo in
@@ -328,3 +332,137 @@ returns-clause-result g t c =
     let is : IsResult op m at node = step_result op d k m at s low high node step c.make.ensures.sound c.make.ensures.extends (extends_trans d k m kept.extends c.make.ensures.extends) c.in_ok-node.ensures.live c.in_ok-node.ensures.denotes in
     let made : Keeps op at d m m0 m2 = keeps_node op at d k m node m0 m2 b.sound b.live kept c.make.ensures.sound c.make.ensures.extends is c.in_ok-node.ensures.only in
     is
+
+pub returns-then-seen-place-clause-steps : goal.returns-then-seen-place-clause-steps
+returns-then-seen-place-clause-steps g t c =
+    takes_none c.args.store.now (alone c.args.f) c.args.store.now c.args.memo.now c.args.steps.now
+
+pub returns-in-Some-clause-steps : goal.returns-in-Some-clause-steps
+returns-in-Some-clause-steps g t c =
+    takes_none c.args.store.now (alone c.args.f) c.args.store.now c.args.memo.now c.args.steps.now
+
+pub returns-in_err-low-clause-stop_steps : goal.returns-in_err-low-clause-stop_steps
+returns-in_err-low-clause-stop_steps g t c =
+    let op = restricted c.args.var c.args.bit in
+    let d = c.args.store.now in
+    let at = alone c.args.f in
+    let r : Seen = c.new-seen.result in
+    let s = alone_split r in
+    let small : c.place_of-place.result < 256 = omega (arith, c.place_of-place.type_inv) in
+    let upper : r.place < c.place_of-place.result = omega (arith, c.if-seen-place.false) in
+    let held : r.place < 256 = omega (arith, small, upper) in
+    let b : Begins op d at s = begins op d at s c.requires.sound (c.requires.live, inl (omega arith), inl (omega arith)) (alone_splits d c.args.f r c.requires.sound c.new-seen.ensures held) (restricted_fixes c.args.var c.args.bit r.var (other_place d c.args.f c.args.var r c.new-seen.ensures held (omega (arith, upper, c.place_of-place.ensures.place)))) in
+    let e = c.restrict.new.store in
+    let m0 = c.args.memo.now in
+    let m1 = c.restrict.new.memo in
+    let s0 = c.args.steps.now in
+    let s1 = c.restrict.new.steps in
+    let taken : Takes d at e m0 s0 s1 = takes_low op d at s b (alone_splits d c.args.f r c.requires.sound c.new-seen.ensures held) e m0 s0 s1 c.in_err-low.ensures.stop_steps in
+    at_stop c.from_residual.result (Takes d at e m0 s0 s1) taken
+
+pub returns-in_err-high-clause-stop_steps : goal.returns-in_err-high-clause-stop_steps
+returns-in_err-high-clause-stop_steps g t c =
+    let op = restricted c.args.var c.args.bit in
+    let d = c.args.store.now in
+    let at = alone c.args.f in
+    let r : Seen = c.new-seen.result in
+    let s = alone_split r in
+    let small : c.place_of-place.result < 256 = omega (arith, c.place_of-place.type_inv) in
+    let upper : r.place < c.place_of-place.result = omega (arith, c.if-seen-place.false) in
+    let held : r.place < 256 = omega (arith, small, upper) in
+    let b : Begins op d at s = begins op d at s c.requires.sound (c.requires.live, inl (omega arith), inl (omega arith)) (alone_splits d c.args.f r c.requires.sound c.new-seen.ensures held) (restricted_fixes c.args.var c.args.bit r.var (other_place d c.args.f c.args.var r c.new-seen.ensures held (omega (arith, upper, c.place_of-place.ensures.place)))) in
+    let e = c.restrict.new.store in
+    let m0 = c.args.memo.now in
+    let m1 = c.restrict.new.memo in
+    let s0 = c.args.steps.now in
+    let s1 = c.restrict.new.steps in
+    let k = c.restrict-2.new.store in
+    let m2 = c.restrict-2.new.memo in
+    let s2 = c.restrict-2.new.steps in
+    let first = c.restrict.ensures.keeps in
+    let second = c.restrict-2.ensures.keeps in
+    let taken : Takes d at k m0 s0 s2 = takes_both op d at s b (alone_splits d c.args.f r c.requires.sound c.new-seen.ensures held) e m0 m1 s0 s1 first c.in_ok-low.ensures.steps k m2 s2 second c.in_err-high.ensures.stop_steps in
+    at_stop c.from_residual-in_err-high.result (Takes d at k m0 s0 s2) taken
+
+pub returns-in_err-node-clause-stop_steps : goal.returns-in_err-node-clause-stop_steps
+returns-in_err-node-clause-stop_steps g t c =
+    let op = restricted c.args.var c.args.bit in
+    let d = c.args.store.now in
+    let at = alone c.args.f in
+    let r : Seen = c.new-seen.result in
+    let s = alone_split r in
+    let small : c.place_of-place.result < 256 = omega (arith, c.place_of-place.type_inv) in
+    let upper : r.place < c.place_of-place.result = omega (arith, c.if-seen-place.false) in
+    let held : r.place < 256 = omega (arith, small, upper) in
+    let b : Begins op d at s = begins op d at s c.requires.sound (c.requires.live, inl (omega arith), inl (omega arith)) (alone_splits d c.args.f r c.requires.sound c.new-seen.ensures held) (restricted_fixes c.args.var c.args.bit r.var (other_place d c.args.f c.args.var r c.new-seen.ensures held (omega (arith, upper, c.place_of-place.ensures.place)))) in
+    let e = c.restrict.new.store in
+    let m0 = c.args.memo.now in
+    let m1 = c.restrict.new.memo in
+    let s0 = c.args.steps.now in
+    let s1 = c.restrict.new.steps in
+    let k = c.restrict-2.new.store in
+    let m2 = c.restrict-2.new.memo in
+    let s2 = c.restrict-2.new.steps in
+    let first = c.restrict.ensures.keeps in
+    let second = c.restrict-2.ensures.keeps in
+    let none : kept_for m0 at ≡ None = unmet_before m0 at c.find.result c.find.ensures c.in_default.is in
+    let unmet = still_none op d at s b e m0 m1 first k m2 second none in
+    let both = takes_all op d at s b (alone_splits d c.args.f r c.requires.sound c.new-seen.ensures held) e m0 m1 s0 s1 first c.in_ok-low.ensures.steps k m2 s2 second c.in_ok-high.ensures.steps in
+    let dm = extends_trans d k c.make.new.self (extends_trans d e k first.extends second.extends) c.make.ensures.extends in
+    let taken : Takes d at c.make.new.self m0 s0 c.make.new.steps = takes_whole op d at s b (alone_splits d c.args.f r c.requires.sound c.new-seen.ensures held) k c.make.new.self m0 m2 s0 s2 c.make.new.steps both second.sound c.make.ensures.sound c.make.ensures.extends dm none unmet c.make.ensures.steps in
+    at_stop c.from_residual-in_err-node.result (Takes d at c.make.new.self m0 s0 c.make.new.steps) taken
+
+pub returns-in_err-add-clause-stop_steps : goal.returns-in_err-add-clause-stop_steps
+returns-in_err-add-clause-stop_steps g t c =
+    let op = restricted c.args.var c.args.bit in
+    let d = c.args.store.now in
+    let at = alone c.args.f in
+    let r : Seen = c.new-seen.result in
+    let s = alone_split r in
+    let small : c.place_of-place.result < 256 = omega (arith, c.place_of-place.type_inv) in
+    let upper : r.place < c.place_of-place.result = omega (arith, c.if-seen-place.false) in
+    let held : r.place < 256 = omega (arith, small, upper) in
+    let b : Begins op d at s = begins op d at s c.requires.sound (c.requires.live, inl (omega arith), inl (omega arith)) (alone_splits d c.args.f r c.requires.sound c.new-seen.ensures held) (restricted_fixes c.args.var c.args.bit r.var (other_place d c.args.f c.args.var r c.new-seen.ensures held (omega (arith, upper, c.place_of-place.ensures.place)))) in
+    let e = c.restrict.new.store in
+    let m0 = c.args.memo.now in
+    let m1 = c.restrict.new.memo in
+    let s0 = c.args.steps.now in
+    let s1 = c.restrict.new.steps in
+    let k = c.restrict-2.new.store in
+    let m2 = c.restrict-2.new.memo in
+    let s2 = c.restrict-2.new.steps in
+    let first = c.restrict.ensures.keeps in
+    let second = c.restrict-2.ensures.keeps in
+    let none : kept_for m0 at ≡ None = unmet_before m0 at c.find.result c.find.ensures c.in_default.is in
+    let unmet = still_none op d at s b e m0 m1 first k m2 second none in
+    let both = takes_all op d at s b (alone_splits d c.args.f r c.requires.sound c.new-seen.ensures held) e m0 m1 s0 s1 first c.in_ok-low.ensures.steps k m2 s2 second c.in_ok-high.ensures.steps in
+    let dm = extends_trans d k c.make.new.self (extends_trans d e k first.extends second.extends) c.make.ensures.extends in
+    let taken : Takes d at c.make.new.self m0 s0 c.make.new.steps = takes_whole op d at s b (alone_splits d c.args.f r c.requires.sound c.new-seen.ensures held) k c.make.new.self m0 m2 s0 s2 c.make.new.steps both second.sound c.make.ensures.sound c.make.ensures.extends dm none unmet c.make.ensures.steps in
+    at_stop c.from_residual-in_err-add.result (Takes d at c.make.new.self m0 s0 c.make.new.steps) taken
+
+pub returns-clause-steps : goal.returns-clause-steps
+returns-clause-steps g t c =
+    let op = restricted c.args.var c.args.bit in
+    let d = c.args.store.now in
+    let at = alone c.args.f in
+    let r : Seen = c.new-seen.result in
+    let s = alone_split r in
+    let small : c.place_of-place.result < 256 = omega (arith, c.place_of-place.type_inv) in
+    let upper : r.place < c.place_of-place.result = omega (arith, c.if-seen-place.false) in
+    let held : r.place < 256 = omega (arith, small, upper) in
+    let b : Begins op d at s = begins op d at s c.requires.sound (c.requires.live, inl (omega arith), inl (omega arith)) (alone_splits d c.args.f r c.requires.sound c.new-seen.ensures held) (restricted_fixes c.args.var c.args.bit r.var (other_place d c.args.f c.args.var r c.new-seen.ensures held (omega (arith, upper, c.place_of-place.ensures.place)))) in
+    let e = c.restrict.new.store in
+    let m0 = c.args.memo.now in
+    let m1 = c.restrict.new.memo in
+    let s0 = c.args.steps.now in
+    let s1 = c.restrict.new.steps in
+    let k = c.restrict-2.new.store in
+    let m2 = c.restrict-2.new.memo in
+    let s2 = c.restrict-2.new.steps in
+    let first = c.restrict.ensures.keeps in
+    let second = c.restrict-2.ensures.keeps in
+    let none : kept_for m0 at ≡ None = unmet_before m0 at c.find.result c.find.ensures c.in_default.is in
+    let unmet = still_none op d at s b e m0 m1 first k m2 second none in
+    let both = takes_all op d at s b (alone_splits d c.args.f r c.requires.sound c.new-seen.ensures held) e m0 m1 s0 s1 first c.in_ok-low.ensures.steps k m2 s2 second c.in_ok-high.ensures.steps in
+    let dm = extends_trans d k c.make.new.self (extends_trans d e k first.extends second.extends) c.make.ensures.extends in
+    takes_put op d at s b (alone_splits d c.args.f r c.requires.sound c.new-seen.ensures held) k c.make.new.self m0 m2 c.add.new.self c.in_ok-node.node.0 s0 s2 c.make.new.steps both second.sound c.make.ensures.sound c.make.ensures.extends dm none unmet c.make.ensures.steps c.in_ok-add.ensures.here c.add.ensures.others

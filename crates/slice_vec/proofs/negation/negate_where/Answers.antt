@@ -15,8 +15,8 @@ loop-i-init g c =
       negates = none;
     }
 
-pub negate_bit-requires-clause-a : goal.negate_bit-requires-clause-a
-negate_bit-requires-clause-a g c =
+pub negate_bits-requires-clause-a : goal.negate_bits-requires-clause-a
+negate_bits-requires-clause-a g c =
     let u = c.args.d.now in let v = c.loop-i.d in
     let xs = c.args.x.now in let n = c.args.n.0 in
     let ns = c.loop-i.row.nodes in let m = c.loop-i.carry.0 in
@@ -46,7 +46,7 @@ returns-in_err-place-clause-grows g c =
       a_is = c.bit.ensures;
     } in
     let less : i < length xs = omega (arith, c.loop-i-test.true, c.width-width.ensures) in
-    bit_grows u v n xs ns m i an place c.negate_bit.new.d less c.negate_bit.ensures.grows
+    bit_grows u v n xs ns m i an place c.negate_bits.new.d less c.negate_bits.ensures.grows
 
 pub returns-in_err-place-clause-stop : goal.returns-in_err-place-clause-stop
 returns-in_err-place-clause-stop g c =
@@ -63,7 +63,7 @@ returns-in_err-place-clause-stop g c =
       a_is = c.bit.ensures;
     } in
     let less : i < length xs = omega (arith, c.loop-i-test.true, c.width-width.ensures) in
-    let stop : StopIs c.negate_bit.new.d.store (InNegation u.store n xs) c.in_err-place.field-0.0 = bit_stops u v n xs ns m i an place c.negate_bit.new.d less c.in_err-place.field-0.0 c.in_err-place.ensures.stop in
+    let stop : StopIs c.negate_bits.new.d.store (InNegation u.store n xs) c.in_err-place.field-0.0 = bit_stops u v n xs ns m i an place c.negate_bits.new.d less c.in_err-place.field-0.0 c.in_err-place.ensures.stop in
     search rules
 
 pub loop-i-preserved : goal.loop-i-preserved
@@ -84,7 +84,7 @@ loop-i-preserved g c =
     record {
       count = omega (arith, ap length c.push.ensures.nodes, length-append ns (c.in_ok-place.place.bit.0 ∷ []), c.loop-i.invariant.count);
       room = omega (arith, c.loop-i.invariant.room, c.push.ensures.room);
-      negates = negates_more u v n xs ns m i an place c.negate_bit.new.d c.push.new.self.nodes c.in_ok-place.place.bit.0 c.in_ok-place.place.carry.0 less c.negate_bit.ensures.grows c.in_ok-place.ensures.bit c.in_ok-place.ensures.carry c.push.ensures.nodes;
+      negates = negates_more u v n xs ns m i an place c.negate_bits.new.d c.push.new.self.nodes c.in_ok-place.place.bit.0 c.in_ok-place.place.carry.0 less c.negate_bits.ensures.grows c.in_ok-place.ensures.bit c.in_ok-place.ensures.carry c.push.ensures.nodes;
     }
 
 pub returns-in_err-top-clause-grows : goal.returns-in_err-top-clause-grows
@@ -101,7 +101,7 @@ returns-in_err-top-clause-grows g c =
       at = omega (arith, c.loop-i.invariant.count, c.loop-i-test.false, c.loop-i.auto.i-end);
       a_is = c.bit-2.ensures;
     } in
-    sign_grows u v n xs ns m i an place c.negate_sign.new.d c.width-width.ensures c.negate_sign.ensures.grows
+    sign_grows u v n xs ns m i an place c.odd.new.d c.width-width.ensures c.odd.ensures.grows
 
 pub returns-in_err-top-clause-stop : goal.returns-in_err-top-clause-stop
 returns-in_err-top-clause-stop g c =
@@ -117,7 +117,7 @@ returns-in_err-top-clause-stop g c =
       at = omega (arith, c.loop-i.invariant.count, c.loop-i-test.false, c.loop-i.auto.i-end);
       a_is = c.bit-2.ensures;
     } in
-    let stop : StopIs c.negate_sign.new.d.store (InNegation u.store n xs) c.in_err-top.field-0.0 = sign_stops u v n xs ns m i an place c.negate_sign.new.d c.width-width.ensures c.in_err-top.field-0.0 c.in_err-top.ensures.stop in
+    let stop : StopIs c.odd.new.d.store (InNegation u.store n xs) c.in_err-top.field-0.0 = sign_stops u v n xs ns m i an place c.odd.new.d c.width-width.ensures c.in_err-top.field-0.0 c.in_err-top.ensures.stop in
     search rules
 
 pub returns-clause-negation : goal.returns-clause-negation
@@ -135,7 +135,7 @@ returns-clause-negation g c =
       a_is = c.bit-2.ensures;
     } in
     let made : c.into_slices.result ≡ ns ++ c.in_ok-top.top.0 ∷ [] = c.into_slices.ensures ∙ c.push-2.ensures.nodes in
-    negation_done u v n xs ns m i an place c.negate_sign.new.d c.into_slices.result c.in_ok-top.top.0 c.width-width.ensures c.requires.width c.negate_sign.ensures.grows c.in_ok-top.ensures.bit made
+    negation_done u v n xs ns m i an place c.odd.new.d c.into_slices.result c.in_ok-top.top.0 c.width-width.ensures c.requires.width c.odd.ensures.grows c.in_ok-top.ensures.node made
 
 pub returns-clause-grows : goal.returns-clause-grows
 returns-clause-grows g c =
@@ -151,4 +151,4 @@ returns-clause-grows g c =
       at = omega (arith, c.loop-i.invariant.count, c.loop-i-test.false, c.loop-i.auto.i-end);
       a_is = c.bit-2.ensures;
     } in
-    sign_grows u v n xs ns m i an place c.negate_sign.new.d c.width-width.ensures c.negate_sign.ensures.grows
+    sign_grows u v n xs ns m i an place c.odd.new.d c.width-width.ensures c.odd.ensures.grows

@@ -1,4 +1,4 @@
-use Rattle.std.proofs.Common.{◌≡◌, ◌∙◌, sym}
+use Rattle.std.proofs.Common.{◌≡◌, ◌∙◌, ◌+◌, ◌≤◌, sym}
 use Rattle.diagram_model.specs.Stores.{KeepsFunctions, function_of}
 use Rattle.diagram_model.proofs.Growing.{functions_kept}
 use Rattle.computed_cache.specs.Entries.{touched}
@@ -7,6 +7,8 @@ use Rattle.diagram_ops.specs.Diagrams.{AreRight, IsRight, key_of, connective_of}
 use Rattle.diagram_ops.proofs.Results.{result_on}
 use Rattle.diagram_ops.proofs.Splits.{three}
 use Rattle.diagram_ops.proofs.Right.{grown_right, found_right, touched_right, kept_right, entry}
+use Rattle.diagram_ops.specs.Taken.{joint_size_of}
+use Rattle.diagram_ops.proofs.Taking.{takes_joint_size}
 use Rattle.diagram_ops.proofs.diagrams.Diagrams.apply3.Goals as goal
 
 pub invariant_of-self : goal.invariant_of-self
@@ -109,3 +111,27 @@ returns-clause-functions g c =
 pub returns-clause-sound : goal.returns-clause-sound
 returns-clause-sound g c =
     record { store = c.connect.ensures.keeps.sound; entries = invariant_of-self-2 g c }
+
+pub returns-in_err-node-clause-steps : goal.returns-in_err-node-clause-steps
+returns-in_err-node-clause-steps g c =
+    let d = c.self.inside.store in
+    let e = c.connect.new.store in
+    let h : c.connect.new.steps ≤ c.args.steps.now + joint_size_of d c.args.f.0 c.args.g.0 c.args.h.0 =
+    takes_joint_size d (three c.args.f.0 c.args.g.0 c.args.h.0) e c.begin.new.self c.args.steps.now c.connect.new.steps c.connect.ensures.keeps.sound c.connect.ensures.keeps.extends c.in_err-node.ensures.stop_steps in
+    rw (sym c.self.view_is) h
+
+pub returns-in_err-keep-clause-steps : goal.returns-in_err-keep-clause-steps
+returns-in_err-keep-clause-steps g c =
+    let d = c.self.inside.store in
+    let e = c.connect.new.store in
+    let h : c.connect.new.steps ≤ c.args.steps.now + joint_size_of d c.args.f.0 c.args.g.0 c.args.h.0 =
+    takes_joint_size d (three c.args.f.0 c.args.g.0 c.args.h.0) e c.begin.new.self c.args.steps.now c.connect.new.steps c.connect.ensures.keeps.sound c.connect.ensures.keeps.extends c.in_ok-node.ensures.steps.takes in
+    rw (sym c.self.view_is) h
+
+pub returns-clause-steps : goal.returns-clause-steps
+returns-clause-steps g c =
+    let d = c.self.inside.store in
+    let e = c.connect.new.store in
+    let h : c.connect.new.steps ≤ c.args.steps.now + joint_size_of d c.args.f.0 c.args.g.0 c.args.h.0 =
+    takes_joint_size d (three c.args.f.0 c.args.g.0 c.args.h.0) e c.begin.new.self c.args.steps.now c.connect.new.steps c.connect.ensures.keeps.sound c.connect.ensures.keeps.extends c.in_ok-node.ensures.steps.takes in
+    rw (sym c.self.view_is) h

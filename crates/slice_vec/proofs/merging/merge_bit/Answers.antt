@@ -1,0 +1,62 @@
+use Rattle.std.proofs.Common.{ap}
+use Rattle.diagram_model.specs.Stores.{function_of}
+use Rattle.computed_cache.specs.Entries.{Cached}
+use Rattle.diagram_ops.specs.Flips.{flipping_of}
+use Rattle.slice_vec.specs.Places.{merge_at}
+use Rattle.slice_vec.proofs.Joined.{merge_low, merge_high}
+use Rattle.slice_vec.proofs.Places.{call_grows, call_node, call_stop}
+use Rattle.slice_vec.proofs.merging.merge_bit.Goals as goal
+
+pub returns-then-bit-clause-grows : goal.returns-then-bit-clause-grows
+returns-then-bit-clause-grows g c =
+    let v = c.args.d.now in let t = c.args.var in
+    let n = c.args.n.0 in let a = c.args.a.0 in let b = c.args.b.0 in
+    let same = merge_high t c.args.bit (function_of v.store n) (function_of v.store a) (function_of v.store b) c.if-bit.true c.requires.n.is in
+    let r = merge_at t c.args.bit (function_of v.store a) (function_of v.store b) in
+    let f = flipping_of 172 t v.store n b a in
+    call_grows v c.apply3_flipped.new.self f r same c.apply3_flipped.ensures.sound c.apply3_flipped.ensures.extends c.apply3_flipped.ensures.functions (ap (λ (k : Cached). k.capacity) c.apply3_flipped.ensures.cache) c.apply3_flipped.ensures.made
+
+pub returns-then-bit-clause-node : goal.returns-then-bit-clause-node
+returns-then-bit-clause-node g c =
+    let v = c.args.d.now in let t = c.args.var in
+    let n = c.args.n.0 in let a = c.args.a.0 in let b = c.args.b.0 in
+    let same = merge_high t c.args.bit (function_of v.store n) (function_of v.store a) (function_of v.store b) c.if-bit.true c.requires.n.is in
+    let r = merge_at t c.args.bit (function_of v.store a) (function_of v.store b) in
+    let f = flipping_of 172 t v.store n b a in
+    call_node c.apply3_flipped.new.self.store f r c.apply3_flipped.result same c.apply3_flipped.ensures.live c.apply3_flipped.ensures.denotes
+
+pub returns-then-bit-clause-stop : goal.returns-then-bit-clause-stop
+returns-then-bit-clause-stop g c =
+    let v = c.args.d.now in let t = c.args.var in
+    let n = c.args.n.0 in let a = c.args.a.0 in let b = c.args.b.0 in
+    let same = merge_high t c.args.bit (function_of v.store n) (function_of v.store a) (function_of v.store b) c.if-bit.true c.requires.n.is in
+    let r = merge_at t c.args.bit (function_of v.store a) (function_of v.store b) in
+    let f = flipping_of 172 t v.store n b a in
+    call_stop c.apply3_flipped.new.self.store v.store.order f r c.apply3_flipped.result same c.apply3_flipped.ensures.stop
+
+pub returns-clause-grows : goal.returns-clause-grows
+returns-clause-grows g c =
+    let v = c.args.d.now in let t = c.args.var in
+    let n = c.args.n.0 in let a = c.args.a.0 in let b = c.args.b.0 in
+    let same = merge_low t c.args.bit (function_of v.store n) (function_of v.store a) (function_of v.store b) c.if-bit.false c.requires.n.is in
+    let r = merge_at t c.args.bit (function_of v.store a) (function_of v.store b) in
+    let f = flipping_of 202 t v.store n a b in
+    call_grows v c.apply3_flipped-2.new.self f r same c.apply3_flipped-2.ensures.sound c.apply3_flipped-2.ensures.extends c.apply3_flipped-2.ensures.functions (ap (λ (k : Cached). k.capacity) c.apply3_flipped-2.ensures.cache) c.apply3_flipped-2.ensures.made
+
+pub returns-clause-node : goal.returns-clause-node
+returns-clause-node g c =
+    let v = c.args.d.now in let t = c.args.var in
+    let n = c.args.n.0 in let a = c.args.a.0 in let b = c.args.b.0 in
+    let same = merge_low t c.args.bit (function_of v.store n) (function_of v.store a) (function_of v.store b) c.if-bit.false c.requires.n.is in
+    let r = merge_at t c.args.bit (function_of v.store a) (function_of v.store b) in
+    let f = flipping_of 202 t v.store n a b in
+    call_node c.apply3_flipped-2.new.self.store f r c.apply3_flipped-2.result same c.apply3_flipped-2.ensures.live c.apply3_flipped-2.ensures.denotes
+
+pub returns-clause-stop : goal.returns-clause-stop
+returns-clause-stop g c =
+    let v = c.args.d.now in let t = c.args.var in
+    let n = c.args.n.0 in let a = c.args.a.0 in let b = c.args.b.0 in
+    let same = merge_low t c.args.bit (function_of v.store n) (function_of v.store a) (function_of v.store b) c.if-bit.false c.requires.n.is in
+    let r = merge_at t c.args.bit (function_of v.store a) (function_of v.store b) in
+    let f = flipping_of 202 t v.store n a b in
+    call_stop c.apply3_flipped-2.new.self.store v.store.order f r c.apply3_flipped-2.result same c.apply3_flipped-2.ensures.stop

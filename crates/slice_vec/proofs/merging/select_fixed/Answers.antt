@@ -1,0 +1,118 @@
+use Rattle.std.proofs.Common.{rules, arith, ◌≡◌, ap, ◌<◌, ◌∷◌, [], length, max, length-append}
+use Rattle.diagram_model.specs.Stores.{function_of}
+use Rattle.diagram_ops.specs.Diagrams.{variable_of}
+use Rattle.diagram_ops.specs.Made.{StopIs, IsPrefixOfSome}
+use Rattle.slice_vec.specs.Digits.{chosen, fixed}
+use Rattle.slice_vec.specs.Growing.{Denotes}
+use Rattle.slice_vec.specs.Places.{merge_at}
+use Rattle.slice_vec.specs.Slices.{digits_of, first_bits}
+use Rattle.slice_vec.proofs.Bits.{bit_denotes}
+use Rattle.slice_vec.proofs.Growing.{denotes_on}
+use Rattle.slice_vec.proofs.Followed.{Follows, next_grows, next_stops, follows_more}
+use Rattle.slice_vec.proofs.Joined.{merge_is, merged_done}
+use Rattle.slice_vec.proofs.merging.select_fixed.Goals as goal
+
+pub merge_bit-requires-clause-a : goal.merge_bit-requires-clause-a
+merge_bit-requires-clause-a g c =
+    let u = c.args.d.now in let v = c.loop-i.d in
+    let xs = c.args.x.now in let ys = c.args.y.now in let n = c.args.n.0 in let t = c.args.var in let bit = c.args.bit in
+    let k = max (length xs) (length ys) in
+    let s = chosen (variable_of t) (fixed t bit (digits_of u.store xs)) (fixed t bit (digits_of u.store ys)) in
+    let ns = c.loop-i.row.nodes in let i = c.loop-i.i in
+    let an = c.bit.result.0 in let bn = c.bit-in-loop-i.result.0 in
+    let h : Follows u k s v ns = c.loop-i.invariant.follows in
+    let began = c.cached-cached.ensures.sound in
+    let a : Denotes v.store an (digits_of u.store xs i) = bit_denotes u v (IsPrefixOfSome u.store.order (first_bits k s)) xs i an began h.grows c.requires.x c.bit.ensures in
+    let b : Denotes v.store bn (digits_of u.store ys i) = bit_denotes u v (IsPrefixOfSome u.store.order (first_bits k s)) ys i bn began h.grows c.requires.y c.bit-in-loop-i.ensures in
+    a.live
+
+pub merge_bit-requires-clause-b : goal.merge_bit-requires-clause-b
+merge_bit-requires-clause-b g c =
+    let u = c.args.d.now in let v = c.loop-i.d in
+    let xs = c.args.x.now in let ys = c.args.y.now in let n = c.args.n.0 in let t = c.args.var in let bit = c.args.bit in
+    let k = max (length xs) (length ys) in
+    let s = chosen (variable_of t) (fixed t bit (digits_of u.store xs)) (fixed t bit (digits_of u.store ys)) in
+    let ns = c.loop-i.row.nodes in let i = c.loop-i.i in
+    let an = c.bit.result.0 in let bn = c.bit-in-loop-i.result.0 in
+    let h : Follows u k s v ns = c.loop-i.invariant.follows in
+    let began = c.cached-cached.ensures.sound in
+    let a : Denotes v.store an (digits_of u.store xs i) = bit_denotes u v (IsPrefixOfSome u.store.order (first_bits k s)) xs i an began h.grows c.requires.x c.bit.ensures in
+    let b : Denotes v.store bn (digits_of u.store ys i) = bit_denotes u v (IsPrefixOfSome u.store.order (first_bits k s)) ys i bn began h.grows c.requires.y c.bit-in-loop-i.ensures in
+    b.live
+
+pub merge_bit-requires-clause-n : goal.merge_bit-requires-clause-n
+merge_bit-requires-clause-n g c =
+    let u = c.args.d.now in let v = c.loop-i.d in
+    let xs = c.args.x.now in let ys = c.args.y.now in let n = c.args.n.0 in let t = c.args.var in let bit = c.args.bit in
+    let k = max (length xs) (length ys) in
+    let s = chosen (variable_of t) (fixed t bit (digits_of u.store xs)) (fixed t bit (digits_of u.store ys)) in
+    let h : Follows u k s v c.loop-i.row.nodes = c.loop-i.invariant.follows in
+    let began = c.cached-cached.ensures.sound in
+    denotes_on u v (IsPrefixOfSome u.store.order (first_bits k s)) n (variable_of t) began h.grows c.requires.n
+
+pub returns-in_err-merged-clause-grows : goal.returns-in_err-merged-clause-grows
+returns-in_err-merged-clause-grows g c =
+    let u = c.args.d.now in let v = c.loop-i.d in
+    let xs = c.args.x.now in let ys = c.args.y.now in let n = c.args.n.0 in let t = c.args.var in let bit = c.args.bit in
+    let k = max (length xs) (length ys) in
+    let s = chosen (variable_of t) (fixed t bit (digits_of u.store xs)) (fixed t bit (digits_of u.store ys)) in
+    let ns = c.loop-i.row.nodes in let i = c.loop-i.i in
+    let an = c.bit.result.0 in let bn = c.bit-in-loop-i.result.0 in
+    let h : Follows u k s v ns = c.loop-i.invariant.follows in
+    let began = c.cached-cached.ensures.sound in
+    let a : Denotes v.store an (digits_of u.store xs i) = bit_denotes u v (IsPrefixOfSome u.store.order (first_bits k s)) xs i an began h.grows c.requires.x c.bit.ensures in
+    let b : Denotes v.store bn (digits_of u.store ys i) = bit_denotes u v (IsPrefixOfSome u.store.order (first_bits k s)) ys i bn began h.grows c.requires.y c.bit-in-loop-i.ensures in
+    let f = merge_at t bit (function_of v.store an) (function_of v.store bn) in
+    let same : f ≡ s i = merge_is u v t bit xs ys i an bn a b in
+    let less : i < k = omega (arith, c.loop-i-test.true, c.max-width.ensures, c.width.ensures, c.width-2.ensures) in
+    next_grows u k s v ns h i c.loop-i.invariant.count f same c.merge_bit.new.d less c.merge_bit.ensures.grows
+
+pub returns-in_err-merged-clause-stop : goal.returns-in_err-merged-clause-stop
+returns-in_err-merged-clause-stop g c =
+    let u = c.args.d.now in let v = c.loop-i.d in
+    let xs = c.args.x.now in let ys = c.args.y.now in let n = c.args.n.0 in let t = c.args.var in let bit = c.args.bit in
+    let k = max (length xs) (length ys) in
+    let s = chosen (variable_of t) (fixed t bit (digits_of u.store xs)) (fixed t bit (digits_of u.store ys)) in
+    let ns = c.loop-i.row.nodes in let i = c.loop-i.i in
+    let an = c.bit.result.0 in let bn = c.bit-in-loop-i.result.0 in
+    let h : Follows u k s v ns = c.loop-i.invariant.follows in
+    let began = c.cached-cached.ensures.sound in
+    let a : Denotes v.store an (digits_of u.store xs i) = bit_denotes u v (IsPrefixOfSome u.store.order (first_bits k s)) xs i an began h.grows c.requires.x c.bit.ensures in
+    let b : Denotes v.store bn (digits_of u.store ys i) = bit_denotes u v (IsPrefixOfSome u.store.order (first_bits k s)) ys i bn began h.grows c.requires.y c.bit-in-loop-i.ensures in
+    let f = merge_at t bit (function_of v.store an) (function_of v.store bn) in
+    let same : f ≡ s i = merge_is u v t bit xs ys i an bn a b in
+    let less : i < k = omega (arith, c.loop-i-test.true, c.max-width.ensures, c.width.ensures, c.width-2.ensures) in
+    let stop : StopIs c.merge_bit.new.d.store (IsPrefixOfSome u.store.order (first_bits k s)) c.in_err-merged.field-0.0 = next_stops u k s v ns h i c.loop-i.invariant.count f same c.merge_bit.new.d less c.in_err-merged.field-0.0 c.in_err-merged.ensures.stop in
+    search rules
+
+pub loop-i-preserved : goal.loop-i-preserved
+loop-i-preserved g c =
+    let u = c.args.d.now in let v = c.loop-i.d in
+    let xs = c.args.x.now in let ys = c.args.y.now in let n = c.args.n.0 in let t = c.args.var in let bit = c.args.bit in
+    let k = max (length xs) (length ys) in
+    let s = chosen (variable_of t) (fixed t bit (digits_of u.store xs)) (fixed t bit (digits_of u.store ys)) in
+    let ns = c.loop-i.row.nodes in let i = c.loop-i.i in
+    let an = c.bit.result.0 in let bn = c.bit-in-loop-i.result.0 in
+    let h : Follows u k s v ns = c.loop-i.invariant.follows in
+    let began = c.cached-cached.ensures.sound in
+    let a : Denotes v.store an (digits_of u.store xs i) = bit_denotes u v (IsPrefixOfSome u.store.order (first_bits k s)) xs i an began h.grows c.requires.x c.bit.ensures in
+    let b : Denotes v.store bn (digits_of u.store ys i) = bit_denotes u v (IsPrefixOfSome u.store.order (first_bits k s)) ys i bn began h.grows c.requires.y c.bit-in-loop-i.ensures in
+    let f = merge_at t bit (function_of v.store an) (function_of v.store bn) in
+    let same : f ≡ s i = merge_is u v t bit xs ys i an bn a b in
+    let less : i < k = omega (arith, c.loop-i-test.true, c.max-width.ensures, c.width.ensures, c.width-2.ensures) in
+    record {
+      count = omega (arith, ap length c.push.ensures.nodes, length-append ns (c.in_ok-merged.merged.0 ∷ []), c.loop-i.invariant.count);
+      room = omega (arith, c.loop-i.invariant.room, c.push.ensures.room);
+      follows = follows_more u k s v ns h i c.loop-i.invariant.count f same c.merge_bit.new.d c.push.new.self.nodes c.in_ok-merged.merged.0 less c.merge_bit.ensures.grows c.in_ok-merged.ensures.node c.push.ensures.nodes;
+    }
+
+pub returns-clause-merged : goal.returns-clause-merged
+returns-clause-merged g c =
+    let u = c.args.d.now in let v = c.loop-i.d in
+    let xs = c.args.x.now in let ys = c.args.y.now in let n = c.args.n.0 in let t = c.args.var in let bit = c.args.bit in
+    let k = max (length xs) (length ys) in
+    let s = chosen (variable_of t) (fixed t bit (digits_of u.store xs)) (fixed t bit (digits_of u.store ys)) in
+    let zs = c.into_slices.result in
+    let made : zs ≡ c.loop-i.row.nodes = c.into_slices.ensures in
+    let h : Follows u k s v zs = rw made c.loop-i.invariant.follows in
+    merged_done u v t bit xs ys zs c.requires.x c.requires.y h (omega (arith, ap length made, c.loop-i.invariant.count, c.loop-i-test.false, c.loop-i.auto.i-end, c.max-width.ensures, c.width.ensures, c.width-2.ensures))
