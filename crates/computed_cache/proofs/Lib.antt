@@ -1,1 +1,3 @@
+-- Lemmas: `Entries` for callers.
+pub mod Entries
 pub mod Puts

@@ -10,7 +10,7 @@ use mathlib.Core.Path.{fun_ext}
 use Rattle.bit_lists.specs.Lists.{all_lists}
 use Rattle.bit_lists.specs.Orders.{has, AreVars}
 use Rattle.diagram_model.specs.Bryant.{IsCountedFrom, IsOneOf, IsCounted, IsIn, AreDifferent, IsNumberOf}
-use Rattle.diagram_model.specs.Functions.{Function, bit, put, fix}
+use Rattle.diagram_model.specs.Functions.{Assignment, Function, bit, put, fix}
 use Rattle.diagram_model.specs.Size.{truths, same_bool, same_truths, depends, fix_both, level_size, size}
 use Rattle.diagram_model.proofs.Canonical.{has_not-parts}
 use Rattle.diagram_model.proofs.Prefixes.{Ignores, fix_twice, ignores_fix}
@@ -227,10 +227,27 @@ unfolding AreLong
 mapped_same F G k [] same long = refl
 mapped_same F G k (l ∷ ls) same long = ap (λ b. b ∷ map F ls) (same l long.0) ∙ ap (λ bs. G l ∷ bs) (mapped_same F G k ls same long.1)
 
-fixed_truths : (k v : ℕ) (b : Bool) (f g : Function) → v < k → truths k f ≡ truths k g → truths k (fix v b f) ≡ truths k (fix v b g)
+-- functions with the same truth list have the same with a variable fixed
+pub fixed_truths : (k v : ℕ) (b : Bool) (f g : Function) → v < k → truths k f ≡ truths k g → truths k (fix v b f) ≡ truths k (fix v b g)
 unfolding truths
 fixed_truths k v b f g lt e =
     mapped_same (λ ys. fix v b f (bit ys)) (λ ys. fix v b g (bit ys)) k (all_lists k) (λ ys len. fixed_at k v b f g ys lt e len) (all_long k)
+
+put_own : (x : Assignment) (v : ℕ) → put x v (x v) ≡ x
+put_own x v =
+    fun_ext (λ w. elim (cases_eq w v) [
+      | inl e ↦ cond-true (eqb w v) (x v) (x w) (eq-eqb w v e) ∙ ap x (sym e)
+      | inr ne ↦ cond-false (eqb w v) (x v) (x w) (ne_eqb w v ne)
+    ])
+
+-- and functions that have the same truth lists with a variable fixed each way have the same truth list
+pub truths_back : (k v : ℕ) (f g : Function) → ((b : Bool) → truths k (fix v b f) ≡ truths k (fix v b g)) → truths k f ≡ truths k g
+unfolding truths
+truths_back k v f g same =
+    mapped_same (λ ys. f (bit ys)) (λ ys. g (bit ys)) k (all_lists k) (λ ys len.
+    let b = bit ys v in
+    let own = put_own (bit ys) v in
+    ap f (sym own) ∙ same_at k (fix v b f) (fix v b g) ys (same b) len ∙ ap g own) (all_long k)
 
 -- whether a function depends on a variable is seen from its truth list
 pub depends_same : (k v : ℕ) (f g : Function) → v < k → truths k f ≡ truths k g → depends k v f ≡ depends k v g

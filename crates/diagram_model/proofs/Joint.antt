@@ -5,13 +5,12 @@ use Rattle.std.specs.Prelude.{◌||◌}
 use Rattle.std.specs.Set.{distinct_count, unique_keys}
 use Rattle.std.proofs.lemmas.Bool.{cases_eq, cases_Bool, cond-true, cond-false, false≢true, or_cases}
 use Rattle.std.proofs.lemmas.List.{length-map}
-use mathlib.Core.Path.{fun_ext}
-use Rattle.bit_lists.specs.KeptOrders.{has-tail}
+use Rattle.bit_lists.proofs.Variables.{has-tail}
 use Rattle.bit_lists.specs.Lists.{all_lists}
 use Rattle.bit_lists.specs.Orders.{has, after, AreVars}
 use Rattle.diagram_model.specs.Bryant.{IsCountedFrom, IsIn, AreDifferent, IsNumberOf}
 use Rattle.diagram_model.specs.Functions.{Function, bit, fix}
-use Rattle.diagram_model.specs.Joint.{Trio, trio_truths, one_depends, fix_trio, fix_trios, trio_level, joint_size, IsTrioFrom, IsCountedTrio}
+use Rattle.diagram_model.specs.Joint.{Trio, trio_truths, one_depends, fix_trio, fix_trios, joint_size, IsTrioFrom, IsCountedTrio}
 use Rattle.diagram_model.specs.Size.{truths, same_truths, depends}
 use Rattle.diagram_model.proofs.Canonical.{has_not-parts}
 use Rattle.diagram_model.proofs.Counting.{in_same, of_unique, to_unique, unique_different, in_append, in_left, in_right, append_different, ignores_depends, depends_same}

@@ -1,22 +1,23 @@
 -- What a call keeps, put together from what its parts keep.
-use Rattle.std.proofs.Common.{◌≡◌, ◌≢◌, ◌⊎◌, ℕ, ◌<◌, ◌≤◌, true, false, List, Option, Some, None, inl, inr, refl, sym, ◌∙◌, ap, arith}
+use Rattle.std.proofs.Common.{◌≡◌, ◌≢◌, ◌⊎◌, ℕ, ◌<◌, ◌≤◌, true, false, Option, Some, None, inl, inr, sym, ◌∙◌, ap, arith}
 use Rattle.std.proofs.lemmas.Bool.{cases_eq}
 use Rattle.diagram_model.specs.Functions.{Function}
 use Rattle.diagram_model.specs.Nodes.{parts_of}
 use Rattle.diagram_model.specs.Stores.{Diagram, IsSound, Extends, AddsOnly, requested}
 use Rattle.diagram_model.proofs.Growing.{extends_trans}
-use Rattle.memos.specs.Memo.{Triple, found}
 use Rattle.node_store.specs.declared.node.StoreStop.{StoreStop}
 use Rattle.diagram_ops.specs.declared.operands.Operands.{Operands}
 use Rattle.diagram_ops.specs.declared.split.Split.{Split}
-use Rattle.diagram_ops.specs.Made.{StopIs, IsPart, Keeps}
+use Rattle.diagram_ops.specs.Keeping.{IsPart, Keeps}
+use Rattle.diagram_ops.specs.Made.{StopIs}
 use Rattle.diagram_ops.specs.Operands.{AreLive, depths, IsSplit}
-use Rattle.diagram_ops.specs.Operations.{Operation, IsResult, kept_for, AreResults}
+use Rattle.diagram_ops.specs.Operations.{Operation, Results, IsResult}
 use Rattle.diagram_ops.proofs.Results.{Fixes, IsParted, IsStep, same_store, lives_on, below_live, is_result_on, results_on, depths_on, parted}
 use Rattle.diagram_ops.proofs.Splits.{three}
-use Rattle.diagram_ops.proofs.Making.{makes_none, makes_then, makes_wider, stop_wider, part_of_whole, whole_made}
+use Rattle.diagram_ops.proofs.Making.{makes_then, makes_wider, stop_wider, part_of_whole, whole_made}
 
-pub unmet_before : (es : List (Triple × ℕ)) (at : Operands) (o : Option ℕ) → o ≡ kept_for es at → o ≡ None → kept_for es at ≡ None
+-- what a memo answered is what is kept
+pub unmet_before : (es : Results) (at : Operands) (o : Option ℕ) → o ≡ es at → o ≡ None → es at ≡ None
 unmet_before es at o same none = sym same ∙ none
 
 -- a call begins: what is known of its operands and their split
@@ -29,16 +30,6 @@ pub record Begins (op : Operation) (d : Diagram) (at : Operands) (s : Split) : T
 pub begins : (op : Operation) (d : Diagram) (at : Operands) (s : Split) → IsSound d → AreLive d at → IsSplit d at s → Fixes op s.var → Begins op d at s
 begins op d at s sound live split fixes = record { sound = sound; live = live; parted = parted op d at s sound split fixes }
 
-pub keeps_same : (op : Operation) (at : Operands) (d : Diagram) (es : List (Triple × ℕ)) → IsSound d → AreResults op d es → Keeps op at d d es es
-keeps_same op at d es s all = record {
-  sound = s;
-  extends = same_store d;
-  results = all;
-  higher = λ to live less. refl;
-  made = makes_none d (IsPart op d at);
-  still = λ to n is. is;
-}
-
 module _ (op : Operation) (d : Diagram) (at : Operands) (s : Split) (b : Begins op d at s) where
   pub low_live : AreLive d s.low
   low_live = below_live d s.var s.low b.parted.low.above
@@ -46,7 +37,7 @@ module _ (op : Operation) (d : Diagram) (at : Operands) (s : Split) (b : Begins 
   pub low_falls : depths d s.low < depths d at
   low_falls = b.parted.low.falls
 
-  high_live_d : AreLive d s.high
+  pub high_live_d : AreLive d s.high
   high_live_d = below_live d s.var s.high b.parted.high.above
 
   high_falls_d : depths d s.high < depths d at
@@ -56,7 +47,7 @@ module _ (op : Operation) (d : Diagram) (at : Operands) (s : Split) (b : Begins 
   low_part p = part_of_whole op d d at s false s.low b.sound b.sound (same_store d) b.parted b.parted.low p
 
   -- the first part alone
-  pub keeps_low : (e : Diagram) (m0 m1 : List (Triple × ℕ)) → Keeps op s.low d e m0 m1 → Keeps op at d e m0 m1
+  pub keeps_low : (e : Diagram) (m0 m1 : Results) → Keeps op s.low d e m0 m1 → Keeps op at d e m0 m1
   keeps_low e m0 m1 k = record {
     sound = k.sound;
     extends = k.extends;
@@ -70,7 +61,7 @@ module _ (op : Operation) (d : Diagram) (at : Operands) (s : Split) (b : Begins 
   stop_low e r stop = stop_wider e (IsPart op d s.low) (IsPart op d at) low_part r stop
 
   -- the second part, in the store that the first one left
-  module _ (e : Diagram) (m0 m1 : List (Triple × ℕ)) (first : Keeps op s.low d e m0 m1) where
+  module _ (e : Diagram) (m0 m1 : Results) (first : Keeps op s.low d e m0 m1) where
     pub high_live : AreLive e s.high
     high_live = lives_on d e s.high first.extends high_live_d
 
@@ -81,12 +72,12 @@ module _ (op : Operation) (d : Diagram) (at : Operands) (s : Split) (b : Begins 
     high_part p = part_of_whole op d e at s true s.high b.sound first.sound first.extends b.parted b.parted.high p
 
     -- what is kept for nodes that stand as high as the whole, or higher
-    both_higher : (k : Diagram) (m2 : List (Triple × ℕ)) → Keeps op s.high e k m1 m2 → (to : Operands) → AreLive d to → depths d at ≤ depths d to → kept_for m2 to ≡ kept_for m0 to
+    both_higher : (k : Diagram) (m2 : Results) → Keeps op s.high e k m1 m2 → (to : Operands) → AreLive d to → depths d at ≤ depths d to → m2 to ≡ m0 to
     both_higher k m2 second to live le =
         let same = depths_on d e to b.sound first.sound first.extends live in
         second.higher to (lives_on d e to first.extends live) (omega (arith, same, high_falls, le)) ∙ first.higher to live (omega (arith, low_falls, le))
 
-    pub keeps_both : (k : Diagram) (m2 : List (Triple × ℕ)) → Keeps op s.high e k m1 m2 → Keeps op at d k m0 m2
+    pub keeps_both : (k : Diagram) (m2 : Results) → Keeps op s.high e k m1 m2 → Keeps op at d k m0 m2
     keeps_both k m2 second = record {
       sound = second.sound;
       extends = extends_trans d e k first.extends second.extends;
@@ -102,11 +93,11 @@ module _ (op : Operation) (d : Diagram) (at : Operands) (s : Split) (b : Begins 
     stop_high k r stop = stop_wider k (IsPart op e s.high) (IsPart op d at) high_part r stop
 
     -- nothing is kept for the whole by its parts
-    pub still_none : (k : Diagram) (m2 : List (Triple × ℕ)) → Keeps op s.high e k m1 m2 → kept_for m0 at ≡ None → kept_for m2 at ≡ None
+    pub still_none : (k : Diagram) (m2 : Results) → Keeps op s.high e k m1 m2 → m0 at ≡ None → m2 at ≡ None
     still_none k m2 second none = both_higher k m2 second at b.live (omega arith) ∙ none
 
     -- both parts are made
-    pub both_made : (k : Diagram) (m2 : List (Triple × ℕ)) (low high : ℕ) → Keeps op s.high e k m1 m2 → IsResult op e s.low low → IsResult op k s.high high → IsStep op d k at s low high
+    pub both_made : (k : Diagram) (m2 : Results) (low high : ℕ) → Keeps op s.high e k m1 m2 → IsResult op e s.low low → IsResult op k s.high high → IsStep op d k at s low high
     both_made k m2 low high second of_low of_high = record {
       sound_d = b.sound;
       sound_e = second.sound;
@@ -118,7 +109,7 @@ module _ (op : Operation) (d : Diagram) (at : Operands) (s : Split) (b : Begins 
     }
 
 -- the node of the whole is refused
-pub keeps_refused : (op : Operation) (at : Operands) (d k m : Diagram) (m0 m2 : List (Triple × ℕ)) → Keeps op at d k m0 m2 → IsSound m → Extends k m → m ≡ requested k → Keeps op at d m m0 m2
+pub keeps_refused : (op : Operation) (at : Operands) (d k m : Diagram) (m0 m2 : Results) → Keeps op at d k m0 m2 → IsSound m → Extends k m → m ≡ requested k → Keeps op at d m m0 m2
 keeps_refused op at d k m m0 m2 kept sm ext same = record {
   sound = sm;
   extends = extends_trans d k m kept.extends ext;
@@ -129,7 +120,7 @@ keeps_refused op at d k m m0 m2 kept sm ext same = record {
 }
 
 -- the node of the whole is made
-pub keeps_node : (op : Operation) (at : Operands) (d k m : Diagram) (n : ℕ) (m0 m2 : List (Triple × ℕ)) → IsSound d → AreLive d at → Keeps op at d k m0 m2 → IsSound m → Extends k m → IsResult op m at n → AddsOnly k m n → Keeps op at d m m0 m2
+pub keeps_node : (op : Operation) (at : Operands) (d k m : Diagram) (n : ℕ) (m0 m2 : Results) → IsSound d → AreLive d at → Keeps op at d k m0 m2 → IsSound m → Extends k m → IsResult op m at n → AddsOnly k m n → Keeps op at d m m0 m2
 keeps_node op at d k m n m0 m2 sd live kept sm ext is only =
     let dm = extends_trans d k m kept.extends ext in
     record {
@@ -154,6 +145,10 @@ cases_at at to =
 pub operands_eq : (at to : Operands) → (to.f ≡ at.f) × (to.g ≡ at.g) × (to.h ≡ at.h) → to ≡ at
 operands_eq at to e = ap (λ k. three k to.g to.h) e.0 ∙ ap (λ k. three at.f k to.h) e.1 ∙ ap (λ k. three at.f at.g k) e.2
 
+-- what is kept for other triples stays
+abbrev pub KeepsOthers : Operands → Results → Results → Type 0
+KeepsOthers at old new = (to : Operands) → (to.f ≢ at.f) ⊎ ((to.g ≢ at.g) ⊎ (to.h ≢ at.h)) → new to ≡ old to
+
 some_number : (m n : ℕ) → Some m ≡ Some n → m ≡ n
 some_number m n e = cc
 
@@ -162,7 +157,7 @@ no_number None n p q = absurd (cc)
 no_number (Some m) n p q = absurd (cc)
 
 -- the result of the whole is kept
-pub keeps_put : (op : Operation) (at : Operands) (d m : Diagram) (n : ℕ) (m0 m2 m3 : List (Triple × ℕ)) → Keeps op at d m m0 m2 → IsResult op m at n → kept_for m2 at ≡ None → kept_for m3 at ≡ Some n → ((a b c : ℕ) → (a ≢ at.f) ⊎ ((b ≢ at.g) ⊎ (c ≢ at.h)) → found m3 a b c ≡ found m2 a b c) → Keeps op at d m m0 m3
+pub keeps_put : (op : Operation) (at : Operands) (d m : Diagram) (n : ℕ) (m0 m2 m3 : Results) → Keeps op at d m m0 m2 → IsResult op m at n → m2 at ≡ None → m3 at ≡ Some n → KeepsOthers at m2 m3 → Keeps op at d m m0 m3
 keeps_put op at d m n m0 m2 m3 kept is none here others = record {
   sound = kept.sound;
   extends = kept.extends;
@@ -170,20 +165,20 @@ keeps_put op at d m n m0 m2 m3 kept is none here others = record {
       elim (cases_at at to) [
         | inl e ↦
             let same : to ≡ at = operands_eq at to e in
-            let one : i ≡ n = some_number i n (sym there ∙ ap (kept_for m3) same ∙ here) in
+            let one : i ≡ n = some_number i n (sym there ∙ ap m3 same ∙ here) in
             rw (one, same) is
-        | inr ne ↦ kept.results to i (sym (others to.f to.g to.h ne) ∙ there)
+        | inr ne ↦ kept.results to i (sym (others to ne) ∙ there)
       ];
   higher = λ to live less.
       elim (cases_at at to) [
         | inl e ↦ let same : to ≡ at = operands_eq at to e in absurd (omega (arith, less, ap (depths d) same))
-        | inr ne ↦ others to.f to.g to.h ne ∙ kept.higher to live less
+        | inr ne ↦ others to ne ∙ kept.higher to live less
       ];
   made = kept.made;
   still = λ to i was.
       let there = kept.still to i was in
       elim (cases_at at to) [
-        | inl e ↦ absurd (no_number (kept_for m2 to) i there (ap (kept_for m2) (operands_eq at to e) ∙ none))
-        | inr ne ↦ others to.f to.g to.h ne ∙ there
+        | inl e ↦ absurd (no_number (m2 to) i there (ap m2 (operands_eq at to e) ∙ none))
+        | inr ne ↦ others to ne ∙ there
       ];
 }

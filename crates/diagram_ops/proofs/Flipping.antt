@@ -3,31 +3,30 @@ use Rattle.std.proofs.Common.{◌≡◌, ◌≢◌, ◌⊎◌, ℕ, zero, suc, �
 use Rattle.std.proofs.lemmas.Bool.{cases_eq, cond-true, cond-false, ne_eqb}
 use mathlib.Core.Path.{fun_ext}
 use Rattle.bit_lists.specs.Orders.{has, after, place_in}
-use Rattle.bit_lists.specs.KeptOrders.{has-tail}
-use Rattle.diagram_model.specs.declared.parts.Parts.{Parts}
+use Rattle.bit_lists.proofs.Variables.{has-tail}
 use Rattle.diagram_model.specs.Functions.{Assignment, Function, put, fix, IsPrefixOf}
-use Rattle.diagram_model.specs.Nodes.{parts_of, follow, value, IsLiveIn}
+use Rattle.diagram_model.specs.Nodes.{follow, value}
 use Rattle.diagram_model.specs.Stores.{Diagram, IsLive, IsAbove, IsSound, Extends, from, function_of}
 use Rattle.diagram_model.proofs.Fixing.{follow_above, depth_follow, depth_falls, fix_function, ignores_above, ignores_higher, put_at}
-use Rattle.diagram_model.proofs.Growing.{function_on}
 use Rattle.diagram_model.proofs.Prefixes.{Ignores, fix_twice}
 use Rattle.diagram_model.proofs.Values.{value-small}
 use Rattle.node_store.specs.declared.node.Node.{Node}
 use Rattle.node_store.specs.declared.node.StoreStop.{StoreStop}
 use Rattle.diagram_ops.specs.Connectives.{connective, connected}
 use Rattle.diagram_ops.specs.Flips.{flip, exchanged, flipping, flipping_of, turned_at, half_of, IsKept}
-use Rattle.diagram_ops.specs.Made.{MakesOnly, StopIs, IsPart}
+use Rattle.diagram_ops.specs.Keeping.{IsPart}
+use Rattle.diagram_ops.specs.Made.{MakesOnly, StopIs}
 use Rattle.diagram_ops.specs.declared.operands.Operands.{Operands}
 use Rattle.diagram_ops.specs.declared.split.Seen.{Seen}
 use Rattle.diagram_ops.specs.declared.split.Split.{Split}
 use Rattle.diagram_ops.specs.Operands.{AreLive, AreFrom, SomeHas, rest, depths, IsSplit}
-use Rattle.diagram_ops.specs.Operations.{result_of, IsResult}
+use Rattle.diagram_ops.specs.Operations.{IsResult}
 use Rattle.diagram_ops.specs.Seen.{IsSeen}
 use Rattle.diagram_ops.specs.Short.{IsValuation, IsShort}
 use Rattle.diagram_ops.proofs.Connecting.{connected_fixes, short_result}
 use Rattle.diagram_ops.proofs.Restricting.{from_place, put_both}
 use Rattle.diagram_ops.proofs.Results.{Fixes, IsPartAt, IsParted, parted, put_same, result_on}
-use Rattle.diagram_ops.proofs.Splits.{three, placed_parts}
+use Rattle.diagram_ops.proofs.Splits.{three}
 
 at_point : (f g : Function) → f ≡ g → (x : Assignment) → f x ≡ g x
 at_point f g e x = ap (λ (w : Function). w x) e
@@ -38,12 +37,12 @@ put_flip x u v b ne =
     ap (λ c. put (put x u b) v (not c)) (cond-false (eqb v u) b (x v) (ne_eqb v u (λ e. ne (sym e))))
     ∙ fun_ext (λ w. put_both x u v b (not (x v)) ne w)
 
-flip_other : (v u : ℕ) (b : Bool) (g : Function) → u ≢ v → fix u b (flip v g) ≡ flip v (fix u b g)
+pub flip_other : (v u : ℕ) (b : Bool) (g : Function) → u ≢ v → fix u b (flip v g) ≡ flip v (fix u b g)
 unfolding flip
 flip_other v u b g ne = fun_ext (λ x. ap g (put_flip x u v b ne))
 
 -- the flipped variable is fixed the other way
-flip_own : (v : ℕ) (b : Bool) (g : Function) → fix v b (flip v g) ≡ flip v (fix v (not b) g)
+pub flip_own : (v : ℕ) (b : Bool) (g : Function) → fix v b (flip v g) ≡ flip v (fix v (not b) g)
 unfolding flip
 flip_own v b g =
     fun_ext (λ x.
@@ -53,11 +52,11 @@ flip_own v b g =
     )
 
 -- a function that doesn't read v isn't changed
-flip_none : (v : ℕ) (g : Function) → Ignores g v → flip v g ≡ g
+pub flip_none : (v : ℕ) (g : Function) → Ignores g v → flip v g ≡ g
 unfolding flip
 flip_none v g drops = fun_ext (λ x. at_point (fix v (not (x v)) g) g (drops (not (x v))) x)
 
-flip_ignores : (v u : ℕ) (g : Function) → Ignores g u → Ignores (flip v g) u
+pub flip_ignores : (v u : ℕ) (g : Function) → Ignores g u → Ignores (flip v g) u
 flip_ignores v u g h b =
     elim (cases_eq u v) [
       | inl e ↦ ap (λ w. fix w b (flip v g)) e ∙ flip_own v b g ∙ ap (flip v) (ap (λ w. fix w (not b) g) (sym e) ∙ h (not b))
@@ -88,7 +87,7 @@ flipping_fixes t v u ne = record {
 }
 
 -- what is left of the nodes where v is fixed to b, and the other way in the second
-abbrev turned : Diagram → ℕ → Bool → Operands → Operands
+abbrev pub turned : Diagram → ℕ → Bool → Operands → Operands
 turned d v b at = record { f = follow d.slots v b at.f; g = follow d.slots v (not b) at.g; h = follow d.slots v b at.h }
 
 turned_falls : (d : Diagram) (v : ℕ) (b : Bool) (at : Operands) → IsSound d → SomeHas d v at → depths d (turned d v b at) < depths d at
@@ -111,13 +110,13 @@ part_same : (t : ℕ) (d : Diagram) (at : Operands) (v : ℕ) (b : Bool) (to fro
 part_same t d at v b to from e p = rw e p
 
 -- the parts of the second node change their places
-own_low : (d : Diagram) (v : ℕ) (at : Operands) (l h : Operands) → l ≡ rest d v false at → h ≡ rest d v true at → three l.f h.g l.h ≡ turned d v false at
+pub own_low : (d : Diagram) (v : ℕ) (at : Operands) (l h : Operands) → l ≡ rest d v false at → h ≡ rest d v true at → three l.f h.g l.h ≡ turned d v false at
 own_low d v at l h el eh = ap (λ (k : Operands). three k.f h.g k.h) el ∙ ap (λ (k : Operands). three (follow d.slots v false at.f) k.g (follow d.slots v false at.h)) eh
 
-own_high : (d : Diagram) (v : ℕ) (at : Operands) (l h : Operands) → l ≡ rest d v false at → h ≡ rest d v true at → three h.f l.g h.h ≡ turned d v true at
+pub own_high : (d : Diagram) (v : ℕ) (at : Operands) (l h : Operands) → l ≡ rest d v false at → h ≡ rest d v true at → three h.f l.g h.h ≡ turned d v true at
 own_high d v at l h el eh = ap (λ (k : Operands). three k.f l.g k.h) eh ∙ ap (λ (k : Operands). three (follow d.slots v true at.f) k.g (follow d.slots v true at.h)) el
 
-abbrev crossed : Split → Split
+abbrev pub crossed : Split → Split
 crossed s = record { var = s.var; low = three s.low.f s.high.g s.low.h; high = three s.high.f s.low.g s.high.h }
 
 crossed_parted : (t : ℕ) (d : Diagram) (at : Operands) (s : Split) → IsSound d → IsSplit d at s → IsParted (flipping t s.var) d at (crossed s)

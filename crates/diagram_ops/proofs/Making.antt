@@ -16,7 +16,8 @@ use Rattle.node_store.specs.declared.node.StoreStop.TheVariants.{Full, OutOfMemo
 use Rattle.node_store.specs.Makes.{StopMeans}
 use Rattle.diagram_ops.specs.declared.operands.Operands.{Operands}
 use Rattle.diagram_ops.specs.declared.split.Split.{Split}
-use Rattle.diagram_ops.specs.Made.{Property, MakesOnly, IsMissing, StopIs, IsPart}
+use Rattle.diagram_ops.specs.Keeping.{IsPart}
+use Rattle.diagram_ops.specs.Made.{Property, MakesOnly, IsMissing, StopIs}
 use Rattle.diagram_ops.specs.Operands.{AreLive}
 use Rattle.diagram_ops.specs.Operations.{Operation, result_of, IsResult}
 use Rattle.diagram_ops.proofs.Results.{IsPartAt, IsParted, IsStep, below_live, result_on, var_on, step_low, step_high, step_choice}

@@ -18,7 +18,8 @@ use Rattle.diagram_ops.specs.declared.split.Split.{Split}
 use Rattle.diagram_ops.specs.Operands.{alone, IsSplit}
 use Rattle.diagram_ops.specs.Operations.{restricted, IsResult}
 use Rattle.diagram_ops.specs.Seen.{IsSeen, child_at}
-use Rattle.diagram_ops.specs.Made.{MakesOnly, StopIs, IsPart}
+use Rattle.diagram_ops.specs.Keeping.{IsPart}
+use Rattle.diagram_ops.specs.Made.{MakesOnly, StopIs}
 use Rattle.diagram_model.proofs.Growing.{function_on}
 use Rattle.node_store.specs.declared.node.Node.{Node}
 use Rattle.node_store.specs.declared.node.StoreStop.{StoreStop}

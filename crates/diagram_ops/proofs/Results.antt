@@ -1,5 +1,5 @@
 -- Results of operations, where the store grows and where a node is put over two parts.
-use Rattle.std.proofs.Common.{◌≡◌, ℕ, ◌<◌, Bool, true, false, cond, eqb, List, length, inl, inr, refl, sym, ◌∙◌, ap, arith, eq-eqb}
+use Rattle.std.proofs.Common.{◌≡◌, ℕ, ◌<◌, Bool, true, false, cond, eqb, length, inl, inr, refl, sym, ◌∙◌, ap, arith, eq-eqb}
 use Rattle.std.proofs.lemmas.Bool.{cases_eq, cases_Bool, cond-true, cond-false, ne_eqb}
 use mathlib.Core.Path.{fun_ext}
 use Rattle.bit_lists.specs.Orders.{has, after}
@@ -11,11 +11,10 @@ use Rattle.diagram_model.proofs.Fixing.{follow_above, above_live, depth_follow, 
 use Rattle.diagram_model.proofs.Growing.{live_on, above_on, above_back, depth_on, function_on}
 use Rattle.diagram_model.proofs.Prefixes.{Ignores}
 use Rattle.diagram_model.proofs.Values.{live-wider}
-use Rattle.memos.specs.Memo.{Triple}
 use Rattle.diagram_ops.specs.declared.operands.Operands.{Operands}
 use Rattle.diagram_ops.specs.declared.split.Split.{Split}
 use Rattle.diagram_ops.specs.Operands.{AreLive, AreAbove, AreFrom, SomeHas, rest, depths, IsSplit}
-use Rattle.diagram_ops.specs.Operations.{Operation, result_of, IsResult, AreResults}
+use Rattle.diagram_ops.specs.Operations.{Operation, Results, result_of, IsResult, AreResults}
 
 pub same_store : (d : Diagram) → Extends d d
 same_store d = record { order = refl; limit = refl; kept = λ n p is. is }
@@ -50,7 +49,7 @@ is_result_on op d e at n sd se ext r = record {
   denotes = function_on d e n sd se ext r.live ∙ r.denotes ∙ sym (result_on op d e at sd se ext r.operands);
 }
 
-pub results_on : (op : Operation) (d e : Diagram) (es : List (Triple × ℕ)) → IsSound d → IsSound e → Extends d e → AreResults op d es → AreResults op e es
+pub results_on : (op : Operation) (d e : Diagram) (es : Results) → IsSound d → IsSound e → Extends d e → AreResults op d es → AreResults op e es
 results_on op d e es sd se ext all at n is = is_result_on op d e at n sd se ext (all at n is)
 
 -- fixing v in the three functions is fixing it in the result, which reads no variable that they don't

@@ -1,16 +1,18 @@
 -- The entries of a cache stay right.
-use Rattle.std.proofs.Common.{◌≡◌, ℕ, zero, suc, ◌-◌, Bool, true, false, cond, List, [], ◌∷◌, take, Option, Some, None, is_some, inl, inr, refl, sym, ◌∙◌, ap}
+use Rattle.std.proofs.Common.{◌≡◌, ℕ, zero, suc, ◌-◌, Bool, true, false, cond, ◌≤◌, length, List, [], ◌∷◌, take, Result, Ok, Err, IfOk, OnErr, Option, Some, None, is_some, inl, inr, refl, sym, ◌∙◌, ap}
 use Rattle.std.specs.Option.{option_map_or}
 use Rattle.std.specs.List.{AllByRecursion}
 use Rattle.std.proofs.lemmas.Bool.{cases_Bool, cond-true, cond-false}
 use Rattle.std.proofs.lemmas.List.Elements.{All-from_recursion, recursion_from_All}
 use Rattle.computed_cache.specs.declared.key.Key.{Key}
-use Rattle.computed_cache.specs.Entries.{same_key, value_at, without, touched, kept}
+use Rattle.computed_cache.specs.Entries.{Cached, same_key, value_at, without, touched, kept}
 use Rattle.computed_cache.proofs.Puts.{same_is}
 use Rattle.diagram_model.specs.Stores.{Diagram, IsSound, Extends}
 use Rattle.diagram_model.proofs.Growing.{live_on, function_on}
 use Rattle.diagram_ops.specs.Connectives.{connected}
-use Rattle.diagram_ops.specs.Diagrams.{AreRight, IsRight}
+use Rattle.node_store.specs.declared.node.Node.{Node}
+use Rattle.node_store.specs.declared.node.StoreStop.{StoreStop}
+use Rattle.diagram_ops.specs.Diagrams.{AreRight, IsRight, with_answer}
 use Rattle.diagram_ops.proofs.Results.{result_on}
 use Rattle.diagram_ops.proofs.Splits.{three}
 
@@ -88,10 +90,16 @@ kept_right d capacity k n es here all =
     let each = recursion_from_All (IsRight d) es all in
     All-from_recursion (IsRight d) (kept capacity es k n) (here, each_cond d (is_some (value_at es k)) (without es k) (take (capacity - 1) es) (each_without d k es each) (each_take d (capacity - 1) es each))
 
-first_of : (es : List (Key × ℕ)) (k : Key) (o : Option ℕ) (n : ℕ) → o ≡ Some n → take 1 (option_map_or (λ v. entry k v ∷ without es k) o es) ≡ entry k n ∷ []
-first_of es k None n is = absurd (cc)
-first_of es k (Some m) n is = ap (λ v. entry k v ∷ []) (some_number m n is)
+-- a cache by its entries and its capacity
+pub cached_is : (c : Cached) (es : List (Key × ℕ)) (n : ℕ) → c.entries ≡ es → c.capacity ≡ n → c ≡ record { entries = es; capacity = n }
+cached_is c es n e k =
+    let build = λ (fs : List (Key × ℕ)) (m : ℕ). let r : Cached = record { entries = fs; capacity = m } in r in
+    ap (λ fs. build fs c.capacity) e ∙ ap (build es) k
 
--- the entry that was found stands first
-pub first_touched : (es : List (Key × ℕ)) (k : Key) (n : ℕ) → value_at es k ≡ Some n → take 1 (touched es k) ≡ entry k n ∷ []
-first_touched es k n is = first_of es k (value_at es k) n is
+pub longer_as : (es fs gs : List (Key × ℕ)) → fs ≡ gs → length es ≤ length gs → length es ≤ length fs
+longer_as es fs gs e h = rw e h
+
+-- a call keeps the capacity
+pub after_capacity : (old new : Cached) (k : Key) (o : Result Node StoreStop) → IfOk o (λ n. new ≡ with_answer old k n.0) → OnErr o (new ≡ old) → new.capacity ≡ old.capacity
+after_capacity old new k (Ok n) put stop = ap (λ (c : Cached). c.capacity) put
+after_capacity old new k (Err why) put stop = ap (λ (c : Cached). c.capacity) stop

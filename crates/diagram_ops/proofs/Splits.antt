@@ -90,7 +90,7 @@ left d n v place r b s seen is at within =
     ]
 
 -- the topmost of three nodes, with what was read of it
-pub record IsTop (d : Diagram) (at : Operands) (t : Seen) (m : ℕ) : Type 0 where
+pub record IsTopmost (d : Diagram) (at : Operands) (t : Seen) (m : ℕ) : Type 0 where
   pub seen : IsSeen d m t
   pub one : (m ≡ at.f) ⊎ ((m ≡ at.g) ⊎ (m ≡ at.h))
 
@@ -119,7 +119,7 @@ upper_of f g h u t one uf ug two tu th = record {
 seen_as : (d : Diagram) (n : ℕ) (r t : Seen) → t ≡ r → IsSeen d n r → IsSeen d n t
 seen_as d n r t e h = rw e h
 
-top_of : (d : Diagram) (at : Operands) (f g h t : Seen) → AreSeen d at f g h → IsUpper f g h t → (m : ℕ) × IsTop d at t m
+top_of : (d : Diagram) (at : Operands) (f g h t : Seen) → AreSeen d at f g h → IsUpper f g h t → (m : ℕ) × IsTopmost d at t m
 top_of d at f g h t seen up =
     elim up.one [
       | inl e ↦ (at.f, record { seen = seen_as d at.f f t e seen.of_f; one = inl refl })

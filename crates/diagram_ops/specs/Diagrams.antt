@@ -1,14 +1,16 @@
 -- A store with the cache of its connectives, as contracts see it.
-use Rattle.std.specs.Prelude.{◌≡◌, ℕ, List, Result, Ok}
+use Rattle.std.specs.Prelude.{◌≡◌, ℕ, Bool, List, Result, Ok}
 use Rattle.std.specs.List.{All}
 use Rattle.computed_cache.specs.declared.key.Key.{Key}
-use Rattle.computed_cache.specs.Entries.{Cached}
-use Rattle.diagram_model.specs.Functions.{Function}
+use Rattle.computed_cache.specs.Entries.{Cached, kept}
+use Rattle.diagram_model.specs.Functions.{Function, fix, IsPrefixOf}
 use Rattle.diagram_model.specs.Stores.{Diagram, IsLive, IsSound, function_of}
 use Rattle.node_store.specs.declared.node.Node.{Node}
 use Rattle.node_store.specs.declared.node.StoreStop.{StoreStop}
 use Rattle.diagram_ops.specs.Connectives.{connected}
+use Rattle.diagram_ops.specs.Made.{Property}
 
+-- a store, and the cache of its connectives
 pub record Shared : Type 0 where
   pub store : Diagram
   pub cache : Cached
@@ -17,10 +19,19 @@ pub record Shared : Type 0 where
 abbrev pub connective_of : ℕ → Diagram → ℕ → ℕ → ℕ → Function
 connective_of t d f g h = connected t (function_of d f) (function_of d g) (function_of d h)
 
+-- a function that arises from the connective by fixing a prefix of the order
+abbrev pub InConnective : ℕ → Diagram → ℕ → ℕ → ℕ → Property
+InConnective t d f g h = IsPrefixOf d.order (connective_of t d f g h)
+
+-- a function that arises from the function of n with v fixed to b
+abbrev pub InCofactor : ℕ → Bool → Diagram → ℕ → Property
+InCofactor v b d n = IsPrefixOf d.order (fix v b (function_of d n))
+
 -- the function that is true where v is
 unfoldable pub variable_of : ℕ → Function
 variable_of v = λ x. x v
 
+-- what the answer of a connective is kept under
 abbrev pub key_of : ℕ → ℕ → ℕ → ℕ → Key
 key_of t f g h = record { table = t; f = f; g = g; h = h }
 
@@ -32,6 +43,7 @@ pub record IsRight (d : Diagram) (e : Key × ℕ) : Type 0 where
   pub value : IsLive d e.1
   pub denotes : function_of d e.1 ≡ connective_of e.0.table d e.0.f e.0.g e.0.h
 
+-- each entry is right
 abbrev pub AreRight : Diagram → List (Key × ℕ) → Type 0
 AreRight d es = All (IsRight d) es
 
@@ -44,3 +56,8 @@ pub record IsConsistent (v : Shared) : Type 0 where
 pub record IsHit (old new : Shared) (n : ℕ) (result : Result Node StoreStop) : Type 0 where
   pub answer : result ≡ Ok (record { 0 = n })
   pub store : new.store ≡ old.store
+
+-- the cache after a put of the answer under its key, which stands first then: also what a look at a key
+-- leaves that has this answer
+abbrev pub with_answer : Cached → Key → ℕ → Cached
+with_answer c k n = record { entries = kept c.capacity c.entries k n; capacity = c.capacity }

@@ -1,8 +1,9 @@
 -- Connectives of three functions, a variable flipped in the second one.
 use Rattle.std.specs.Prelude.{◌≡◌, ◌⊎◌, ℕ, ◌<◌, ◌/◌, ◌%◌, Bool, cond, not, ◌==◌}
-use Rattle.diagram_model.specs.Functions.{Function, put}
+use Rattle.diagram_model.specs.Functions.{Function, put, IsPrefixOf}
 use Rattle.diagram_model.specs.Stores.{Diagram, function_of}
 use Rattle.diagram_ops.specs.Connectives.{connective, connected}
+use Rattle.diagram_ops.specs.Made.{Property}
 use Rattle.diagram_ops.specs.Short.{IsValuation}
 use Rattle.diagram_ops.specs.declared.split.Split.{Split}
 
@@ -21,6 +22,14 @@ flipping t v f g h = connected t f (flip v g) h
 -- the same of three nodes
 abbrev pub flipping_of : ℕ → ℕ → Diagram → ℕ → ℕ → ℕ → Function
 flipping_of t v d f g h = connected t (function_of d f) (flip v (function_of d g)) (function_of d h)
+
+-- a function that arises from such a connective by fixing a prefix of the order
+abbrev pub InFlipping : ℕ → ℕ → Diagram → ℕ → ℕ → ℕ → Property
+InFlipping t v d f g h = IsPrefixOf d.order (flipping_of t v d f g h)
+
+-- a function that arises from an exchange
+abbrev pub InExchange : ℕ → Diagram → ℕ → ℕ → Property
+InExchange v d c f = IsPrefixOf d.order (exchanged v (function_of d c) (function_of d f))
 
 -- at v the two sides of the second node change their places
 abbrev pub turned_at : ℕ → Split → Split

@@ -3,12 +3,9 @@ use Rattle.std.specs.Prelude.{◌≡◌, ◌≢◌, ◌⊎◌, ℕ, List, [], �
 use Rattle.diagram_model.specs.declared.parts.Parts.{Parts}
 use Rattle.diagram_model.specs.Functions.{Function, IsPrefixOf}
 use Rattle.diagram_model.specs.Nodes.{parts_of}
-use Rattle.diagram_model.specs.Stores.{Diagram, held, IsLive, IsSound, Extends, function_of}
+use Rattle.diagram_model.specs.Stores.{Diagram, held, IsLive, function_of}
 use Rattle.node_store.specs.declared.node.StoreStop.{StoreStop}
 use Rattle.node_store.specs.declared.node.StoreStop.TheVariants.{Full, OutOfMemory}
-use Rattle.memos.specs.Memo.{Triple}
-use Rattle.diagram_ops.specs.declared.operands.Operands.{Operands}
-use Rattle.diagram_ops.specs.Operations.{Operation, result_of, kept_for, AreResults, KeepsHigher}
 
 -- a property of functions
 abbrev pub Property : Type 1
@@ -34,16 +31,3 @@ StopIs d Is OutOfMemory = Unit {0}
 unfoldable pub IsPrefixOfSome : List ℕ → List Function → Function → Type 0
 IsPrefixOfSome vs [] g = ⊥
 IsPrefixOfSome vs (f ∷ fs) g = IsPrefixOf vs f g ⊎ IsPrefixOfSome vs fs g
-
--- a function that arises from the operation's result by fixing a prefix of the order
-abbrev pub IsPart : Operation → Diagram → Operands → Property
-IsPart op d at = IsPrefixOf d.order (result_of op d at)
-
--- what a call keeps on each way out: stores with old before new, and the results kept before and after
-pub record Keeps (op : Operation) (at : Operands) (old new : Diagram) (before later : List (Triple × ℕ)) : Type 0 where
-  pub sound : IsSound new
-  pub extends : Extends old new
-  pub results : AreResults op new later
-  pub higher : KeepsHigher old at before later
-  pub made : MakesOnly old new (IsPart op old at)
-  pub still : (to : Operands) (n : ℕ) → kept_for before to ≡ Some n → kept_for later to ≡ Some n

@@ -1,5 +1,5 @@
 -- An operation on the functions of three nodes, and its results.
-use Rattle.std.specs.Prelude.{◌≡◌, ℕ, ◌<◌, Bool, true, List, Option, Some}
+use Rattle.std.specs.Prelude.{◌≡◌, ℕ, ◌<◌, Bool, true, cond, ◌&&◌, ◌==◌, List, Option, Some, None, slice_index_or}
 use Rattle.bit_lists.specs.Orders.{has}
 use Rattle.diagram_model.specs.Functions.{Function, fix}
 use Rattle.diagram_model.specs.Stores.{Diagram, IsLive, IsAbove, function_of}
@@ -26,14 +26,22 @@ pub record IsResult (op : Operation) (d : Diagram) (at : Operands) (n : ℕ) : T
   pub below : (w : ℕ) → has d.order w ≡ true → AreAbove d w at → IsAbove d w n
   pub denotes : function_of d n ≡ result_of op d at
 
--- the result that is kept for three nodes
-abbrev pub kept_for : List (Triple × ℕ) → Operands → Option ℕ
-kept_for es at = found es at.f at.g at.h
+-- the results that a call has kept so far: a node for some triples of nodes
+abbrev pub Results : Type 0
+Results = Operands → Option ℕ
+
+-- the results in a memo
+abbrev pub kept_in : List (Triple × ℕ) → Results
+kept_in es at = found es at.f at.g at.h
+
+-- the results in a memo by the number of one node, with FALSE in the other two places
+abbrev pub fixed_in : List (Option ℕ) → Results
+fixed_in es at = cond (at.g == 0 && at.h == 0) (slice_index_or es at.f None) None
 
 -- each result that is kept is right
-abbrev pub AreResults : Operation → Diagram → List (Triple × ℕ) → Type 0
-AreResults op d es = (at : Operands) (n : ℕ) → kept_for es at ≡ Some n → IsResult op d at n
+abbrev pub AreResults : Operation → Diagram → Results → Type 0
+AreResults op d kept = (at : Operands) (n : ℕ) → kept at ≡ Some n → IsResult op d at n
 
 -- what is kept for live nodes that stand higher stays
-abbrev pub KeepsHigher : Diagram → Operands → List (Triple × ℕ) → List (Triple × ℕ) → Type 0
-KeepsHigher d at old new = (to : Operands) → AreLive d to → depths d at < depths d to → kept_for new to ≡ kept_for old to
+abbrev pub KeepsHigher : Diagram → Operands → Results → Results → Type 0
+KeepsHigher d at old new = (to : Operands) → AreLive d to → depths d at < depths d to → new to ≡ old to

@@ -1,49 +1,55 @@
--- The steps of a call: one for each triple of nodes that it meets.
-use Rattle.std.specs.Prelude.{◌≡◌, ◌⊎◌, ℕ, ◌+◌, List, [], ◌∷◌, length, Some, None}
-use Rattle.diagram_model.specs.Joint.{Trio, joint_size, IsTrioFrom}
-use Rattle.diagram_model.specs.Size.{size}
+-- The steps of a recursion: one for each triple of nodes that it meets.
+use Rattle.std.specs.Prelude.{◌≡◌, ◌⊎◌, ℕ, ◌+◌, ◌≤◌, List, [], ◌∷◌, length, Some, None}
+use Rattle.diagram_model.specs.Functions.{Function}
+use Rattle.diagram_model.specs.Joint.{Trio, IsTrioFrom}
 use Rattle.diagram_model.specs.Stores.{Diagram, function_of}
-use Rattle.memos.specs.Memo.{Triple}
 use Rattle.diagram_ops.specs.declared.operands.Operands.{Operands}
 use Rattle.diagram_ops.specs.Operands.{AreLive}
-use Rattle.diagram_ops.specs.Operations.{kept_for}
+use Rattle.diagram_ops.specs.Operations.{Results}
 
--- the functions of three nodes
-abbrev pub trio_of : Diagram → Operands → Trio
-trio_of d at = record { f = function_of d at.f; g = function_of d at.g; h = function_of d at.h }
+-- how the second of three functions is read
+abbrev pub Reading : Type 0
+Reading = Function → Function
 
--- how many different triples arise from the functions of three nodes by fixing a prefix of the order in
--- all three, and have one that depends on the next variable
-abbrev pub joint_size_of : Diagram → ℕ → ℕ → ℕ → ℕ
-joint_size_of d f g h = joint_size (length d.order) d.order (trio_of d (record { f = f; g = g; h = h }) ∷ [])
+-- as it is
+abbrev pub plain : Reading
+plain f = f
 
--- the size of the function of a node
-abbrev pub size_of : Diagram → ℕ → ℕ
-size_of d n = size (length d.order) d.order (function_of d n ∷ [])
+-- the functions of three nodes, the second one read so
+abbrev pub trio_by : Reading → Diagram → Operands → Trio
+trio_by r d at = record { f = function_of d at.f; g = r (function_of d at.g); h = function_of d at.h }
 
 -- the functions in e of the nodes `to` arise from those in d of the nodes `at` by fixing the variables of
 -- a prefix of the order, and one of them depends on the next variable
-pub record IsMet (d : Diagram) (at : Operands) (e : Diagram) (to : Operands) : Type 0 where
+pub record IsMet (r : Reading) (d : Diagram) (at : Operands) (e : Diagram) (to : Operands) : Type 0 where
   pub live : AreLive e to
-  pub arises : IsTrioFrom (length d.order) d.order (trio_of d at) (trio_of e to)
+  pub arises : IsTrioFrom (length d.order) d.order (trio_by r d at) (trio_by r e to)
 
+-- t is in the list
 abbrev pub IsAmong : List Operands → Operands → Type 0
 IsAmong [] t = ⊥
 IsAmong (u ∷ us) t = (t ≡ u) ⊎ IsAmong us t
 
+-- the list has each of its triples once
 abbrev pub AreDistinct : List Operands → Type 0
 AreDistinct [] = Unit {0}
 AreDistinct (t ∷ ts) = (IsAmong ts t → ⊥) × AreDistinct ts
 
--- a step was taken for each of these triples: they are met from `at`, each once, and none was kept before
-pub record Takes (d : Diagram) (at : Operands) (e : Diagram) (before : List (Triple × ℕ)) (old new : ℕ) : Type 0 where
+-- triples of nodes by what they are in a store
+abbrev pub Kind : Type 1
+Kind = Diagram → Operands → Type 0
+
+-- A step was taken for each of these triples, also by the store's own count: they are of this kind in e,
+-- each once, and none was kept before.
+pub record Takes (Is : Kind) (d e : Diagram) (before : Results) (old new : ℕ) : Type 0 where
   pub met : List Operands
   pub once : AreDistinct met
-  pub fresh : (to : Operands) → IsAmong met to → kept_for before to ≡ None
-  pub arise : (to : Operands) → IsAmong met to → IsMet d at e to
+  pub fresh : (to : Operands) → IsAmong met to → before to ≡ None
+  pub arise : (to : Operands) → IsAmong met to → Is e to
   pub count : new ≡ old + length met
+  pub made : e.made ≤ d.made + length met
 
 -- the same, and the result of each is kept
-pub record TakesAll (d : Diagram) (at : Operands) (e : Diagram) (before later : List (Triple × ℕ)) (old new : ℕ) : Type 0 where
-  pub takes : Takes d at e before old new
-  pub kept : (to : Operands) → IsAmong takes.met to → (n : ℕ) × (kept_for later to ≡ Some n)
+pub record TakesAll (Is : Kind) (d e : Diagram) (before later : Results) (old new : ℕ) : Type 0 where
+  pub takes : Takes Is d e before old new
+  pub kept : (to : Operands) → IsAmong takes.met to → (n : ℕ) × (later to ≡ Some n)

@@ -2,10 +2,11 @@
 ghost use Rattle.std.specs.Prelude.{◌≡◌, ◌⊎◌, ◌+◌, ◌<◌, ◌≤◌, IfOk, OnOk, OnErr, IfErr, length};
 ghost use Rattle.diagram_model.specs.Stores.{IsSound};
 ghost use Rattle.diagram_ops.specs.Connectives.{connected};
-ghost use Rattle.diagram_ops.specs.Made.{StopIs, IsPart, Keeps};
+ghost use Rattle.diagram_ops.specs.Keeping.{IsPart, Keeps};
+ghost use Rattle.diagram_ops.specs.Made.{StopIs};
 ghost use Rattle.diagram_ops.specs.Operands.{AreLive};
-ghost use Rattle.diagram_ops.specs.Operations.{IsResult, AreResults};
-ghost use Rattle.diagram_ops.specs.Taken.{Takes, TakesAll};
+ghost use Rattle.diagram_ops.specs.Operations.{IsResult, AreResults, kept_in};
+ghost use Rattle.diagram_ops.specs.Taken.{plain, IsMet, Takes, TakesAll};
 
 use crate::operands::Operands;
 use crate::short::short_cut;
@@ -27,12 +28,12 @@ pub fn connect<L: Ledger>(
 ) -> Result<Node, StoreStop>
     requires sound { IsSound store.old }
     requires live { AreLive store.old at }
-    requires results { AreResults (connected table) store.old memo.old }
-    ensures keeps { Keeps (connected table) at store.old store.new memo.old memo.new }
+    requires results { AreResults (connected table) store.old (kept_in memo.old) }
+    ensures keeps { Keeps (connected table) at store.old store.new (kept_in memo.old) (kept_in memo.new) }
     ensures result { IfOk result (λ n. IsResult (connected table) store.new at n.0) }
     ensures stop { IfErr result (StopIs store.new (IsPart (connected table) store.old at)) }
-    ensures steps { OnOk result (TakesAll store.old at store.new memo.old memo.new steps.old steps.new) }
-    ensures stop_steps { OnErr result (Takes store.old at store.new memo.old steps.old steps.new) }
+    ensures steps { OnOk result (TakesAll (IsMet plain store.old at) store.old store.new (kept_in memo.old) (kept_in memo.new) steps.old steps.new) }
+    ensures stop_steps { OnErr result (Takes (IsMet plain store.old at) store.old store.new (kept_in memo.old) steps.old steps.new) }
 {
     if let Some(short) = short_cut(table, at) {
         return Ok(Node(short));

@@ -1,21 +1,23 @@
 //! A store with the cache of its connectives.
-ghost use Rattle.std.specs.Prelude.{◌≡◌, ◌∷◌, [], ◌+◌, ◌<◌, ◌≤◌, IfOk, OnOk, OnErr, IfErr, IfSome, length, take};
+ghost use Rattle.std.specs.Prelude.{◌≡◌, ◌∷◌, [], ◌<◌, ◌≤◌, IfOk, OnOk, OnErr, IfErr, IfSome, length};
 ghost use Rattle.std.specs.Borrow.{sem};
 ghost use Rattle.std.specs.List.{range_with_len};
 ghost use Rattle.computed_cache.specs.Entries.{value_at};
 ghost use Rattle.diagram_model.specs.Functions.{IsPrefixOf, fix};
 ghost use Rattle.diagram_model.specs.Stores.{held, IsLive, Extends, KeepsFunctions, AddsOnly, NoRoom, function_of, counted, requested};
-ghost use Rattle.diagram_ops.specs.Diagrams.{IsConsistent, IsHit, key_of, connective_of, variable_of};
-ghost use Rattle.diagram_ops.specs.Flips.{exchanged, flipping_of};
+ghost use Rattle.diagram_ops.specs.Bounds.{joint_size_in, joint_size_of, size_in, TakesAtMost};
+ghost use Rattle.diagram_ops.specs.Cofactors.{numbers_of, functions_of, AreAllLive, InCofactors, AreCofactors};
+ghost use Rattle.diagram_ops.specs.Diagrams.{IsConsistent, IsHit, with_answer, key_of, connective_of, InConnective, InCofactor, variable_of};
+ghost use Rattle.diagram_ops.specs.Flips.{flip, exchanged, flipping_of, InFlipping, InExchange};
 ghost use Rattle.diagram_ops.specs.Lending.{lends_store};
 ghost use Rattle.diagram_ops.specs.Made.{MakesOnly, StopIs};
-ghost use Rattle.diagram_ops.specs.Taken.{joint_size_of, size_of};
 ghost use Rattle.node_store.specs.Makes.{StopMeans};
 
 use crate::connect::connect;
 use crate::flipped::connect_flipped;
+use crate::node_memo::NodeMemo;
 use crate::operands::Operands;
-use crate::restrict::restrict;
+use crate::restrict::{restrict, restrict_all};
 use bit_lists::OutOfMemory;
 use computed_cache::{Cache, Key};
 use memos::Memo;
@@ -31,12 +33,13 @@ const CHOICE: u8 = 202;
 /// A store of nodes, with a cache of the answers of connectives.
 ///
 /// Each entry of the cache names live nodes only, and its value denotes its table's connective of its
-/// three functions. The memory of one call's memo is kept for the next.
+/// three functions. The memory of one call's memos is kept for the next.
 #[derive(Drop)]
 pub struct Diagrams {
     store: Store,
     cache: Cache,
     memo: Memo,
+    fixed: NodeMemo,
 }
 
 impl Model for Diagrams {
@@ -67,6 +70,7 @@ impl Diagrams {
             store: Store::new(alloc, vars, limit)?,
             cache: Cache::new(alloc, capacity)?,
             memo: Memo::new(alloc),
+            fixed: NodeMemo::new(alloc),
         })
     }
 
@@ -162,17 +166,44 @@ impl Diagrams {
         requires var { var < length self.old.store.order }
         ensures live { IfOk result (λ n. IsLive self.new.store n.0) }
         ensures denotes { IfOk result (λ n. function_of self.new.store n.0 ≡ fix var bit (function_of self.old.store f.0)) }
-        ensures made { MakesOnly self.old.store self.new.store (IsPrefixOf self.old.store.order (fix var bit (function_of self.old.store f.0))) }
-        ensures stop { IfErr result (StopIs self.new.store (IsPrefixOf self.old.store.order (fix var bit (function_of self.old.store f.0)))) }
+        ensures made { MakesOnly self.old.store self.new.store (InCofactor var bit self.old.store f.0) }
+        ensures stop { IfErr result (StopIs self.new.store (InCofactor var bit self.old.store f.0)) }
         ensures extends { Extends self.old.store self.new.store }
         ensures functions { KeepsFunctions self.old.store self.new.store }
-        ensures steps { steps.new ≤ steps.old + size_of self.old.store f.0 }
+        ensures steps { TakesAtMost (size_in self.old.store (function_of self.old.store f.0 ∷ [])) self.old.store self.new.store steps.old steps.new }
         ensures cache { self.new.cache ≡ self.old.cache }
         ensures sound { IsConsistent self.new }
     {
         let _held = self.store.held();
-        self.memo.begin();
-        restrict(&mut self.store, &mut self.memo, var, bit, f.0, steps)
+        self.fixed.begin();
+        restrict(&mut self.store, &mut self.fixed, var, bit, f.0, steps)
+    }
+
+    /// The functions of nodes with a variable fixed, each in its node's place.
+    ///
+    /// Takes expected time in the nodes above the variable that are met, each once for the whole list.
+    pub fn cofactors<L: Ledger>(
+        &mut self,
+        alloc: Global,
+        fs: &[Node],
+        var: u8,
+        bit: bool,
+        steps: &mut Steps<L>,
+    ) -> Result<Vec<Node>, StoreStop>
+        requires fs { AreAllLive self.old.store (numbers_of fs.now) }
+        requires var { var < length self.old.store.order }
+        ensures fixed { IfOk result (λ ns. AreCofactors var bit self.old.store self.new.store (numbers_of fs.now) (numbers_of ns.items)) }
+        ensures made { MakesOnly self.old.store self.new.store (InCofactors var bit self.old.store (numbers_of fs.now)) }
+        ensures stop { IfErr result (StopIs self.new.store (InCofactors var bit self.old.store (numbers_of fs.now))) }
+        ensures extends { Extends self.old.store self.new.store }
+        ensures functions { KeepsFunctions self.old.store self.new.store }
+        ensures steps { TakesAtMost (size_in self.old.store (functions_of self.old.store (numbers_of fs.now))) self.old.store self.new.store steps.old steps.new }
+        ensures cache { self.new.cache ≡ self.old.cache }
+        ensures sound { IsConsistent self.new }
+    {
+        let _held = self.store.held();
+        self.fixed.begin();
+        restrict_all(alloc, &mut self.store, &mut self.fixed, var, bit, fs, steps)
     }
 
     /// The function that f is with a variable flipped where c holds, and f itself elsewhere, in one walk.
@@ -191,10 +222,11 @@ impl Diagrams {
         requires var { var < length self.old.store.order }
         ensures live { IfOk result (λ n. IsLive self.new.store n.0) }
         ensures denotes { IfOk result (λ n. function_of self.new.store n.0 ≡ exchanged var (function_of self.old.store c.0) (function_of self.old.store f.0)) }
-        ensures made { MakesOnly self.old.store self.new.store (IsPrefixOf self.old.store.order (exchanged var (function_of self.old.store c.0) (function_of self.old.store f.0))) }
-        ensures stop { IfErr result (StopIs self.new.store (IsPrefixOf self.old.store.order (exchanged var (function_of self.old.store c.0) (function_of self.old.store f.0)))) }
+        ensures made { MakesOnly self.old.store self.new.store (InExchange var self.old.store c.0 f.0) }
+        ensures stop { IfErr result (StopIs self.new.store (InExchange var self.old.store c.0 f.0)) }
         ensures extends { Extends self.old.store self.new.store }
         ensures functions { KeepsFunctions self.old.store self.new.store }
+        ensures steps { TakesAtMost (joint_size_in self.old.store (function_of self.old.store c.0) (flip var (function_of self.old.store f.0)) (function_of self.old.store f.0)) self.old.store self.new.store steps.old steps.new }
         ensures cache { self.new.cache ≡ self.old.cache }
         ensures sound { IsConsistent self.new }
     {
@@ -219,10 +251,11 @@ impl Diagrams {
         requires var { var < length self.old.store.order }
         ensures live { IfOk result (λ n. IsLive self.new.store n.0) }
         ensures denotes { IfOk result (λ n. function_of self.new.store n.0 ≡ flipping_of T var self.old.store f.0 g.0 h.0) }
-        ensures made { MakesOnly self.old.store self.new.store (IsPrefixOf self.old.store.order (flipping_of T var self.old.store f.0 g.0 h.0)) }
-        ensures stop { IfErr result (StopIs self.new.store (IsPrefixOf self.old.store.order (flipping_of T var self.old.store f.0 g.0 h.0))) }
+        ensures made { MakesOnly self.old.store self.new.store (InFlipping T var self.old.store f.0 g.0 h.0) }
+        ensures stop { IfErr result (StopIs self.new.store (InFlipping T var self.old.store f.0 g.0 h.0)) }
         ensures extends { Extends self.old.store self.new.store }
         ensures functions { KeepsFunctions self.old.store self.new.store }
+        ensures steps { TakesAtMost (joint_size_in self.old.store (function_of self.old.store f.0) (flip var (function_of self.old.store g.0)) (function_of self.old.store h.0)) self.old.store self.new.store steps.old steps.new }
         ensures cache { self.new.cache ≡ self.old.cache }
         ensures sound { IsConsistent self.new }
     {
@@ -240,8 +273,8 @@ impl Diagrams {
     /// functions have the values f, g and h.
     ///
     /// Asks the cache, then takes expected time in the triples of nodes that are met, and keeps its
-    /// answer in the cache. Takes new memory only where nodes or more results than in any call before
-    /// want it.
+    /// answer in the cache. Takes new memory for nodes, for an entry of the cache that takes no other's
+    /// place, and for more results than in any call before.
     pub fn apply3<const T: u8, L: Ledger>(
         &mut self,
         f: Node,
@@ -254,16 +287,18 @@ impl Diagrams {
         requires h { IsLive self.old.store h.0 }
         ensures live { IfOk result (λ n. IsLive self.new.store n.0) }
         ensures denotes { IfOk result (λ n. function_of self.new.store n.0 ≡ connective_of T self.old.store f.0 g.0 h.0) }
-        ensures made { MakesOnly self.old.store self.new.store (IsPrefixOf self.old.store.order (connective_of T self.old.store f.0 g.0 h.0)) }
-        ensures stop { IfErr result (StopIs self.new.store (IsPrefixOf self.old.store.order (connective_of T self.old.store f.0 g.0 h.0))) }
+        ensures made { MakesOnly self.old.store self.new.store (InConnective T self.old.store f.0 g.0 h.0) }
+        ensures stop { IfErr result (StopIs self.new.store (InConnective T self.old.store f.0 g.0 h.0)) }
         ensures extends { Extends self.old.store self.new.store }
         ensures functions { KeepsFunctions self.old.store self.new.store }
-        ensures first { IfOk result (λ n. take 1 self.new.cache.entries ≡ (key_of T f.0 g.0 h.0, n.0) ∷ []) }
+        ensures cache { IfOk result (λ n. self.new.cache ≡ with_answer self.old.cache (key_of T f.0 g.0 h.0) n.0) }
+        ensures stopped { OnErr result (self.new.cache ≡ self.old.cache) }
+        ensures cached { length self.old.cache.entries ≤ length self.new.cache.entries }
         ensures hit { IfSome (value_at self.old.cache.entries (key_of T f.0 g.0 h.0)) (λ n. IsHit self.old self.new n result × (steps.new ≡ steps.old)) }
-        ensures steps { steps.new ≤ steps.old + joint_size_of self.old.store f.0 g.0 h.0 }
-        ensures capacity { self.new.cache.capacity ≡ self.old.cache.capacity }
+        ensures steps { TakesAtMost (joint_size_of self.old.store f.0 g.0 h.0) self.old.store self.new.store steps.old steps.new }
         ensures sound { IsConsistent self.new }
     {
+        let _cached = self.cache.len();
         let _held = self.store.held();
         let key = Key {
             table: T,

@@ -6,6 +6,7 @@
 mod connect;
 mod diagrams;
 mod flipped;
+mod node_memo;
 mod operands;
 mod restrict;
 mod short;

@@ -1,14 +1,20 @@
 //! Cofactors: what is left of a function once a variable is fixed.
-ghost use Rattle.std.specs.Prelude.{◌≡◌, ◌+◌, ◌<◌, ◌≤◌, IfOk, OnOk, OnErr, IfErr, length};
-ghost use Rattle.diagram_model.specs.Stores.{IsSound, IsLive};
-ghost use Rattle.diagram_ops.specs.Made.{StopIs, IsPart, Keeps};
+ghost use Rattle.std.specs.Prelude.{◌≡◌, ◌<◌, ◌∷◌, [], ◌++◌, ℕ, None, IfOk, OnOk, OnErr, IfErr, length, slice_index_or};
+ghost use Rattle.diagram_model.specs.Stores.{IsSound, IsLive, Extends};
+ghost use Rattle.diagram_ops.specs.Bounds.{size_in, TakesAtMost};
+ghost use Rattle.diagram_ops.specs.Cofactors.{numbers_of, functions_of, AreAllLive, InCofactors, AreCofactors};
+ghost use Rattle.diagram_ops.specs.Keeping.{IsPart, Keeps};
+ghost use Rattle.diagram_ops.specs.Made.{MakesOnly, StopIs};
+ghost use Rattle.diagram_ops.specs.Marks.{result_for};
 ghost use Rattle.diagram_ops.specs.Operands.{alone};
-ghost use Rattle.diagram_ops.specs.Operations.{restricted, IsResult, AreResults};
-ghost use Rattle.diagram_ops.specs.Taken.{Takes, TakesAll};
+ghost use Rattle.diagram_ops.specs.Operations.{restricted, IsResult, AreResults, fixed_in};
+ghost use Rattle.diagram_ops.specs.Taken.{plain, IsMet, Takes, TakesAll};
 
+use crate::node_memo::NodeMemo;
 use crate::split::Seen;
-use memos::Memo;
+use bit_lists::OutOfMemory;
 use node_store::{Node, Store, StoreStop};
+use std::alloc::Global;
 use std::sync::ledger::Ledger;
 use steps::Steps;
 
@@ -17,7 +23,7 @@ use steps::Steps;
 /// A step is taken for each node above the variable that is met, once.
 pub fn restrict<L: Ledger>(
     store: &mut Store,
-    memo: &mut Memo,
+    memo: &mut NodeMemo,
     var: u8,
     bit: bool,
     f: u32,
@@ -26,24 +32,77 @@ pub fn restrict<L: Ledger>(
     requires sound { IsSound store.old }
     requires live { IsLive store.old f }
     requires var { var < length store.old.order }
-    requires results { AreResults (restricted var bit) store.old memo.old }
-    ensures keeps { Keeps (restricted var bit) (alone f) store.old store.new memo.old memo.new }
+    requires results { AreResults (restricted var bit) store.old (fixed_in memo.old) }
+    ensures keeps { Keeps (restricted var bit) (alone f) store.old store.new (fixed_in memo.old) (fixed_in memo.new) }
     ensures result { IfOk result (λ n. IsResult (restricted var bit) store.new (alone f) n.0) }
     ensures stop { IfErr result (StopIs store.new (IsPart (restricted var bit) store.old (alone f))) }
-    ensures steps { OnOk result (TakesAll store.old (alone f) store.new memo.old memo.new steps.old steps.new) }
-    ensures stop_steps { OnErr result (Takes store.old (alone f) store.new memo.old steps.old steps.new) }
+    ensures steps { OnOk result (TakesAll (IsMet plain store.old (alone f)) store.old store.new (fixed_in memo.old) (fixed_in memo.new) steps.old steps.new) }
+    ensures stop_steps { OnErr result (Takes (IsMet plain store.old (alone f)) store.old store.new (fixed_in memo.old) steps.old steps.new) }
 {
     let seen = Seen::new(store, f);
     let place = store.place_of(var) as u16;
     if seen.place >= place {
         return Ok(Node(seen.child(place, bit)));
     }
-    if let Some(node) = memo.find(f, 0, 0) {
+    if let Some(node) = memo.find(f) {
         return Ok(Node(node));
     }
     let low = restrict(store, memo, var, bit, seen.low, steps)?;
     let high = restrict(store, memo, var, bit, seen.high, steps)?;
     let node = store.make(seen.var, low, high, steps)?;
-    memo.add(f, 0, 0, node.0)?;
+    memo.add(f, node.0)?;
     Ok(node)
+}
+
+/// The node at a place of a list.
+fn node_at(fs: &[Node], place: usize) -> u32
+    requires { place < length fs.now }
+    ensures { result ≡ slice_index_or (numbers_of fs.now) place 0 }
+{
+    fs[place].0
+}
+
+/// An empty list with room.
+fn with_room(alloc: Global, room: usize) -> Result<Vec<Node>, OutOfMemory>
+    ensures { IfOk result (λ ns. ns.items ≡ []) }
+{
+    Ok(Vec::with_capacity(alloc, room)?)
+}
+
+fn push(nodes: &mut Vec<Node>, node: Node) -> Result<(), OutOfMemory>
+    ensures { OnOk result (nodes.new.items ≡ nodes.old.items ++ node ∷ []) }
+{
+    nodes.push(node)?;
+    Ok(())
+}
+
+/// The functions of nodes with a variable fixed, with one memo for all.
+///
+/// A step is taken for each node above the variable that is met, once for the whole list.
+pub fn restrict_all<L: Ledger>(
+    alloc: Global,
+    store: &mut Store,
+    memo: &mut NodeMemo,
+    var: u8,
+    bit: bool,
+    fs: &[Node],
+    steps: &mut Steps<L>,
+) -> Result<Vec<Node>, StoreStop>
+    requires sound { IsSound store.old }
+    requires live { AreAllLive store.old (numbers_of fs.now) }
+    requires var { var < length store.old.order }
+    requires none { (n : ℕ) → result_for memo.old n ≡ None }
+    ensures sound { IsSound store.new }
+    ensures extends { Extends store.old store.new }
+    ensures fixed { IfOk result (λ ns. AreCofactors var bit store.old store.new (numbers_of fs.now) (numbers_of ns.items)) }
+    ensures made { MakesOnly store.old store.new (InCofactors var bit store.old (numbers_of fs.now)) }
+    ensures stop { IfErr result (StopIs store.new (InCofactors var bit store.old (numbers_of fs.now))) }
+    ensures steps { TakesAtMost (size_in store.old (functions_of store.old (numbers_of fs.now))) store.old store.new steps.old steps.new }
+{
+    let mut nodes = with_room(alloc, fs.len())?;
+    for i in 0..fs.len() {
+        let node = restrict(store, memo, var, bit, node_at(fs, i), steps)?;
+        push(&mut nodes, node)?;
+    }
+    Ok(nodes)
 }

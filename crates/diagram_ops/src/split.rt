@@ -28,14 +28,13 @@ impl Seen {
         requires live { IsLive store.now n }
         ensures { IsSeen store.now n result }
     {
-        let node = Node(n);
-        match store.top(node) {
-            Some(var) => Seen {
+        match store.parts_of(Node(n)) {
+            Some(parts) => Seen {
                 node: n,
-                place: store.place_of(var) as u16,
-                var,
-                low: store.low(node).0,
-                high: store.high(node).0,
+                place: store.place_of(parts.var) as u16,
+                var: parts.var,
+                low: parts.low,
+                high: parts.high,
             },
             None => Seen {
                 node: n,

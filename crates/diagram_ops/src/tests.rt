@@ -462,3 +462,126 @@ fn lent(rt: &impl Abort, alloc: Global) -> Option<()> {
 fn a_store_is_lent(rt: HostRuntime) {
     assert!(rt; lent(&rt, rt.alloc()).is_some());
 }
+
+/// A function, exclusive or the product of two variables.
+fn plus_product<L: Ledger>(
+    d: &mut Diagrams,
+    sum: Node,
+    v: u8,
+    w: u8,
+    steps: &mut Steps<L>,
+) -> Result<Node, StoreStop>
+    requires sum { IsLive d.old.store sum.0 }
+    requires v { v < length d.old.store.order }
+    requires w { w < length d.old.store.order }
+    ensures order { d.new.store.order ≡ d.old.store.order }
+    ensures live { IfOk result (λ n. IsLive d.new.store n.0) }
+{
+    let x = d.variable(v)?;
+    let y = d.variable(w)?;
+    let product = d.apply3::<192, _>(x, y, FALSE, steps)?;
+    let next = d.apply3::<60, _>(sum, product, FALSE, steps)?;
+    Ok(next)
+}
+
+/// x0 x25 + x1 x24 + .. + x12 x13, modulo 2.
+fn inner_product<L: Ledger>(d: &mut Diagrams, steps: &mut Steps<L>) -> Result<Node, StoreStop>
+    requires vars { length d.old.store.order ≡ 26 }
+    ensures vars { length d.new.store.order ≡ 26 }
+    ensures live { IfOk result (λ n. IsLive d.new.store n.0) }
+{
+    let mut sum = FALSE;
+    for i in 0..13u8 {
+        sum = plus_product(d, sum, i, 25 - i, steps)?;
+    }
+    Ok(sum)
+}
+
+/// The inner product twice, and its size.
+fn inner_products<L: Ledger>(rt: &impl Abort, alloc: Global, blank: Blank) -> Result<(), StoreStop>
+    requires name { blank.name ≡ L.name }
+    requires parts { blank.parts ≡ L.parts }
+    requires some { 0 < blank.parts }
+{
+    let mut steps = Steps::<L>::new(blank);
+    let mut d = Diagrams::new(alloc, 26, 262144, 16)?;
+    assert!(rt; d.store().order().len() == 26);
+    let first = inner_product(&mut d, &mut steps)?;
+    assert_eq!(rt; d.store().size(&[first])?, 8191 + 4096 + 8190);
+    d.forget();
+    let second = inner_product(&mut d, &mut steps)?;
+    assert!(rt; first == second);
+    Ok(())
+}
+
+// Level i of the upper half has 2^i functions, one for each choice of the variables above, which is 8191
+// in all. Level 13 + k has those linear functions of x(13 + k) to x25 that read the first of them: 4096
+// for k = 0, and for k > 0 twice 2^(12 - k), which is 8190 in all. The last calls have more than 6144
+// results, and the first ones after them a few.
+#[test]
+fn long_calls_and_short_ones_after_them(rt: HostRuntime) {
+    assert!(rt; inner_products::<Brand>(&rt, rt.alloc(), Blank::new(1)).is_ok());
+}
+
+/// x0 + .. + x59, modulo 2.
+fn parity<L: Ledger>(d: &mut Diagrams, steps: &mut Steps<L>) -> Result<Node, StoreStop>
+    requires vars { length d.old.store.order ≡ 60 }
+    ensures vars { length d.new.store.order ≡ 60 }
+    ensures live { IfOk result (λ n. IsLive d.new.store n.0) }
+{
+    let mut sum = FALSE;
+    for i in 0..60u8 {
+        let x = d.variable(i)?;
+        sum = d.apply3::<60, _>(sum, x, FALSE, steps)?;
+    }
+    Ok(sum)
+}
+
+/// x59 fixed.
+fn last_fixed(bit: bool) -> Partial
+    ensures { length result ≡ 60 }
+{
+    let mut p = Partial::free(60);
+    p.fix(59, Some(bit));
+    p
+}
+
+/// Whether f is true somewhere, and differs from g somewhere, where x59 is fixed: both as expected.
+fn check_last(rt: &impl Abort, store: &Store, f: Node, g: Node, bit: bool) -> Option<()>
+    requires f { IsLive store.now f.0 }
+    requires g { IsLive store.now g.0 }
+    requires vars { length store.now.order ≡ 60 }
+{
+    let p = last_fixed(bit);
+    assert_eq!(rt; store.any(f, &p).ok()?, bit);
+    assert_eq!(rt; store.differ(f, g, &p).ok()?, bit);
+    Some(())
+}
+
+/// The parity and x59, and its negation and x59: nowhere true without x59, and different with it.
+fn halves_of_parity<L: Ledger>(
+    rt: &impl Abort,
+    alloc: Global,
+    blank: Blank,
+) -> Result<(), StoreStop>
+    requires name { blank.name ≡ L.name }
+    requires parts { blank.parts ≡ L.parts }
+    requires some { 0 < blank.parts }
+{
+    let mut steps = Steps::<L>::new(blank);
+    let mut d = Diagrams::new(alloc, 60, 4096, 16)?;
+    assert!(rt; d.store().order().len() == 60);
+    let p = parity(&mut d, &mut steps)?;
+    let x = d.variable(59)?;
+    let f = d.apply3::<192, _>(p, x, FALSE, &mut steps)?;
+    let g = d.apply3::<48, _>(x, p, FALSE, &mut steps)?;
+    assert!(rt; check_last(rt, d.store(), f, g, false).is_some());
+    assert!(rt; check_last(rt, d.store(), f, g, true).is_some());
+    Ok(())
+}
+
+// A walk that met a pair of nodes more than once would take some 2^58 steps.
+#[test]
+fn tests_on_a_parity_are_linear(rt: HostRuntime) {
+    assert!(rt; halves_of_parity::<Brand>(&rt, rt.alloc(), Blank::new(1)).is_ok());
+}

@@ -1,5 +1,4 @@
-use Rattle.std.proofs.Common.{◌≡◌, ◌<◌, sym, ◌∙◌, arith}
-use Rattle.diagram_ops.specs.Flips.{half_of}
+use Rattle.std.proofs.Common.{◌<◌, sym, ◌∙◌, arith}
 use Rattle.diagram_ops.proofs.Flipping.{kept_none, kept_third}
 use Rattle.diagram_ops.proofs.flipped.short_above.Goals as goal
 

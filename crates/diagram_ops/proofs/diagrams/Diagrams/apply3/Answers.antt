@@ -1,14 +1,20 @@
-use Rattle.std.proofs.Common.{◌≡◌, ◌∙◌, ◌+◌, ◌≤◌, sym}
+use Rattle.std.proofs.Common.{◌≡◌, ◌∙◌, ◌≤◌, length, None, Some, sym, ap, arith}
 use Rattle.diagram_model.specs.Stores.{KeepsFunctions, function_of}
 use Rattle.diagram_model.proofs.Growing.{functions_kept}
-use Rattle.computed_cache.specs.Entries.{touched}
+use Rattle.computed_cache.specs.Entries.{value_at, touched, kept}
+use Rattle.computed_cache.proofs.Entries.{touched_kept, touched_none, kept_longer}
 use Rattle.diagram_ops.specs.Connectives.{connected}
 use Rattle.diagram_ops.specs.Diagrams.{AreRight, IsRight, key_of, connective_of}
 use Rattle.diagram_ops.proofs.Results.{result_on}
 use Rattle.diagram_ops.proofs.Splits.{three}
+use Rattle.diagram_ops.proofs.Taking.{at_stop}
 use Rattle.diagram_ops.proofs.Right.{grown_right, found_right, touched_right, kept_right, entry}
-use Rattle.diagram_ops.specs.Taken.{joint_size_of}
-use Rattle.diagram_ops.proofs.Taking.{takes_joint_size}
+use Rattle.diagram_ops.specs.Bounds.{joint_size_of, TakesAtMost}
+use Rattle.diagram_ops.specs.Operations.{kept_in}
+use Rattle.diagram_ops.specs.Taken.{plain}
+use Rattle.diagram_ops.proofs.Bounds.{takes_joint_size}
+use Rattle.diagram_ops.proofs.Readings.{plain_tells}
+use Rattle.diagram_ops.proofs.Right.{cached_is, longer_as}
 use Rattle.diagram_ops.proofs.diagrams.Diagrams.apply3.Goals as goal
 
 pub invariant_of-self : goal.invariant_of-self
@@ -116,22 +122,98 @@ pub returns-in_err-node-clause-steps : goal.returns-in_err-node-clause-steps
 returns-in_err-node-clause-steps g c =
     let d = c.self.inside.store in
     let e = c.connect.new.store in
-    let h : c.connect.new.steps ≤ c.args.steps.now + joint_size_of d c.args.f.0 c.args.g.0 c.args.h.0 =
-    takes_joint_size d (three c.args.f.0 c.args.g.0 c.args.h.0) e c.begin.new.self c.args.steps.now c.connect.new.steps c.connect.ensures.keeps.sound c.connect.ensures.keeps.extends c.in_err-node.ensures.stop_steps in
+    let keeps = c.connect.ensures.keeps in
+    let h : TakesAtMost (joint_size_of d c.args.f.0 c.args.g.0 c.args.h.0) d e c.args.steps.now c.connect.new.steps =
+    takes_joint_size plain d (three c.args.f.0 c.args.g.0 c.args.h.0) e (kept_in c.begin.new.self) c.args.steps.now c.connect.new.steps keeps.sound keeps.extends (plain_tells e keeps.sound) c.in_err-node.ensures.stop_steps in
     rw (sym c.self.view_is) h
 
 pub returns-in_err-keep-clause-steps : goal.returns-in_err-keep-clause-steps
 returns-in_err-keep-clause-steps g c =
     let d = c.self.inside.store in
     let e = c.connect.new.store in
-    let h : c.connect.new.steps ≤ c.args.steps.now + joint_size_of d c.args.f.0 c.args.g.0 c.args.h.0 =
-    takes_joint_size d (three c.args.f.0 c.args.g.0 c.args.h.0) e c.begin.new.self c.args.steps.now c.connect.new.steps c.connect.ensures.keeps.sound c.connect.ensures.keeps.extends c.in_ok-node.ensures.steps.takes in
+    let keeps = c.connect.ensures.keeps in
+    let h : TakesAtMost (joint_size_of d c.args.f.0 c.args.g.0 c.args.h.0) d e c.args.steps.now c.connect.new.steps =
+    takes_joint_size plain d (three c.args.f.0 c.args.g.0 c.args.h.0) e (kept_in c.begin.new.self) c.args.steps.now c.connect.new.steps keeps.sound keeps.extends (plain_tells e keeps.sound) c.in_ok-node.ensures.steps.takes in
     rw (sym c.self.view_is) h
 
 pub returns-clause-steps : goal.returns-clause-steps
 returns-clause-steps g c =
     let d = c.self.inside.store in
     let e = c.connect.new.store in
-    let h : c.connect.new.steps ≤ c.args.steps.now + joint_size_of d c.args.f.0 c.args.g.0 c.args.h.0 =
-    takes_joint_size d (three c.args.f.0 c.args.g.0 c.args.h.0) e c.begin.new.self c.args.steps.now c.connect.new.steps c.connect.ensures.keeps.sound c.connect.ensures.keeps.extends c.in_ok-node.ensures.steps.takes in
+    let keeps = c.connect.ensures.keeps in
+    let h : TakesAtMost (joint_size_of d c.args.f.0 c.args.g.0 c.args.h.0) d e c.args.steps.now c.connect.new.steps =
+    takes_joint_size plain d (three c.args.f.0 c.args.g.0 c.args.h.0) e (kept_in c.begin.new.self) c.args.steps.now c.connect.new.steps keeps.sound keeps.extends (plain_tells e keeps.sound) c.in_ok-node.ensures.steps.takes in
+    rw (sym c.self.view_is) h
+
+pub returns-in-Some-clause-cache : goal.returns-in-Some-clause-cache
+returns-in-Some-clause-cache g c =
+    let old = c.self.inside.cache in
+    let key = key_of g.row.T c.args.f.0 c.args.g.0 c.args.h.0 in
+    let there : value_at old.entries key ≡ Some c.in-Some.node = sym c.look.ensures.value ∙ c.in-Some.is in
+    let h : c.look.new.self ≡ record { entries = kept old.capacity old.entries key c.in-Some.node; capacity = old.capacity } =
+    cached_is c.look.new.self (kept old.capacity old.entries key c.in-Some.node) old.capacity (c.look.ensures.order ∙ touched_kept old.entries old.capacity key c.in-Some.node there) c.look.ensures.capacity in
+    rw (sym c.self.view_is) h
+
+pub returns-in-Some-clause-cached : goal.returns-in-Some-clause-cached
+returns-in-Some-clause-cached g c =
+    let old = c.self.inside.cache in
+    let key = key_of g.row.T c.args.f.0 c.args.g.0 c.args.h.0 in
+    let there : value_at old.entries key ≡ Some c.in-Some.node = sym c.look.ensures.value ∙ c.in-Some.is in
+    let few : length old.entries ≤ old.capacity = omega (arith, c.len-cached.ensures.count, c.len-cached.ensures.most) in
+    let h : length old.entries ≤ length c.look.new.self.entries = longer_as old.entries c.look.new.self.entries (kept old.capacity old.entries key c.in-Some.node) (c.look.ensures.order ∙ touched_kept old.entries old.capacity key c.in-Some.node there) (kept_longer old.entries old.capacity key c.in-Some.node few) in
+    rw (sym c.self.view_is) h
+
+pub returns-in_err-node-clause-stopped : goal.returns-in_err-node-clause-stopped
+returns-in_err-node-clause-stopped g c =
+    let old = c.self.inside.cache in
+    let key = key_of g.row.T c.args.f.0 c.args.g.0 c.args.h.0 in
+    let none : value_at old.entries key ≡ None = sym c.look.ensures.value ∙ c.in_default.is in
+    let h : c.look.new.self ≡ old = cached_is c.look.new.self old.entries old.capacity (c.look.ensures.order ∙ touched_none old.entries key none) c.look.ensures.capacity in
+    at_stop c.from_residual.result (c.look.new.self ≡ c.args.self.now.cache) (rw (sym c.self.view_is) h)
+
+pub returns-in_err-node-clause-cached : goal.returns-in_err-node-clause-cached
+returns-in_err-node-clause-cached g c =
+    let old = c.self.inside.cache in
+    let key = key_of g.row.T c.args.f.0 c.args.g.0 c.args.h.0 in
+    let none : value_at old.entries key ≡ None = sym c.look.ensures.value ∙ c.in_default.is in
+    let h : length old.entries ≤ length c.look.new.self.entries = longer_as old.entries c.look.new.self.entries old.entries (c.look.ensures.order ∙ touched_none old.entries key none) (omega arith) in
+    rw (sym c.self.view_is) h
+
+pub returns-in_err-keep-clause-stopped : goal.returns-in_err-keep-clause-stopped
+returns-in_err-keep-clause-stopped g c =
+    let old = c.self.inside.cache in
+    let key = key_of g.row.T c.args.f.0 c.args.g.0 c.args.h.0 in
+    let none : value_at old.entries key ≡ None = sym c.look.ensures.value ∙ c.in_default.is in
+    let h : c.keep.new.self ≡ old = cached_is c.keep.new.self old.entries old.capacity (c.in_err-keep.ensures.refused ∙ c.look.ensures.order ∙ touched_none old.entries key none) (c.keep.ensures.capacity ∙ c.look.ensures.capacity) in
+    at_stop c.from_residual-in_err-keep.result (c.keep.new.self ≡ c.args.self.now.cache) (rw (sym c.self.view_is) h)
+
+pub returns-in_err-keep-clause-cached : goal.returns-in_err-keep-clause-cached
+returns-in_err-keep-clause-cached g c =
+    let old = c.self.inside.cache in
+    let key = key_of g.row.T c.args.f.0 c.args.g.0 c.args.h.0 in
+    let none : value_at old.entries key ≡ None = sym c.look.ensures.value ∙ c.in_default.is in
+    let h : length old.entries ≤ length c.keep.new.self.entries = longer_as old.entries c.keep.new.self.entries old.entries (c.in_err-keep.ensures.refused ∙ c.look.ensures.order ∙ touched_none old.entries key none) (omega arith) in
+    rw (sym c.self.view_is) h
+
+pub returns-clause-cache : goal.returns-clause-cache
+returns-clause-cache g c =
+    let old = c.self.inside.cache in
+    let key = key_of g.row.T c.args.f.0 c.args.g.0 c.args.h.0 in
+    let none : value_at old.entries key ≡ None = sym c.look.ensures.value ∙ c.in_default.is in
+    let n = c.in_ok-node.node.0 in
+    let looked = c.look.ensures.order ∙ touched_none old.entries key none in
+    let entries : c.keep.new.self.entries ≡ kept old.capacity old.entries key n = c.in_ok-keep.ensures.kept ∙ ap (λ k. kept k c.look.new.self.entries key n) c.look.ensures.capacity ∙ ap (λ es. kept old.capacity es key n) looked in
+    let h : c.keep.new.self ≡ record { entries = kept old.capacity old.entries key n; capacity = old.capacity } = cached_is c.keep.new.self (kept old.capacity old.entries key n) old.capacity entries (c.keep.ensures.capacity ∙ c.look.ensures.capacity) in
+    rw (sym c.self.view_is) h
+
+pub returns-clause-cached : goal.returns-clause-cached
+returns-clause-cached g c =
+    let old = c.self.inside.cache in
+    let key = key_of g.row.T c.args.f.0 c.args.g.0 c.args.h.0 in
+    let none : value_at old.entries key ≡ None = sym c.look.ensures.value ∙ c.in_default.is in
+    let n = c.in_ok-node.node.0 in
+    let few : length old.entries ≤ old.capacity = omega (arith, c.len-cached.ensures.count, c.len-cached.ensures.most) in
+    let looked = c.look.ensures.order ∙ touched_none old.entries key none in
+    let entries : c.keep.new.self.entries ≡ kept old.capacity old.entries key n = c.in_ok-keep.ensures.kept ∙ ap (λ k. kept k c.look.new.self.entries key n) c.look.ensures.capacity ∙ ap (λ es. kept old.capacity es key n) looked in
+    let h : length old.entries ≤ length c.keep.new.self.entries = longer_as old.entries c.keep.new.self.entries (kept old.capacity old.entries key n) entries (kept_longer old.entries old.capacity key n few) in
     rw (sym c.self.view_is) h

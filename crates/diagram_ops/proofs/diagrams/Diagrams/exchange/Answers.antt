@@ -1,5 +1,4 @@
-use Rattle.std.proofs.Common.{◌≡◌, IfOk, IfErr, sym}
-use Rattle.diagram_model.specs.Functions.{IsPrefixOf}
+use Rattle.std.proofs.Common.{sym}
 use Rattle.diagram_model.specs.Stores.{function_of}
 use Rattle.diagram_ops.proofs.Flipping.{both_exchanged}
 use Rattle.diagram_ops.proofs.diagrams.Diagrams.exchange.Goals as goal
