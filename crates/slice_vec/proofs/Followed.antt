@@ -1,17 +1,20 @@
 -- Bits that are made one after another, each by a call of its own.
 use Rattle.std.proofs.Common.{◌≡◌, ℕ, ◌-◌, ◌<◌, ◌≤◌, Bool, cond, max, List, [], ◌∷◌, ◌++◌, length, inl, sym, ◌∙◌, ap, arith}
 use Rattle.node_store.specs.declared.node.StoreStop.{StoreStop}
-use Rattle.diagram_model.specs.Functions.{Function, IsPrefixOf, fix, put}
+use Rattle.diagram_model.specs.Functions.{Function, IsPrefixOf, put}
 use Rattle.diagram_model.specs.Stores.{Diagram, IsLive, IsSound, function_of}
 use Rattle.diagram_model.proofs.Growing.{function_on}
 use Rattle.diagram_ops.specs.Diagrams.{Shared, IsConsistent}
 use Rattle.diagram_ops.specs.Made.{Property, StopIs, IsPrefixOfSome}
-use Rattle.diagram_ops.specs.Flips.{exchanged}
+use Rattle.diagram_ops.specs.Bounds.{joint_size_in, joint_size_of, TakesAtMost}
+use Rattle.diagram_ops.specs.Flips.{flip, exchanged}
+use Rattle.slice_vec.specs.Bounds.{choosing, turning}
 use Rattle.slice_vec.specs.Digits.{Digits, IsSteady, choice, chosen, fixed, turned, slice_value}
 use Rattle.slice_vec.specs.Growing.{Grows, Denotes}
 use Rattle.slice_vec.specs.Places.{choice_at}
 use Rattle.slice_vec.specs.Slices.{digits_of, StandsIn, first_bits, IsChosen, IsFixed, turned_point, IsTurned}
 use Rattle.slice_vec.proofs.Bits.{Shows, shows_none, shows_more, shows_digits, shows_stands, steady-digits, steady_later, value_on}
+use Rattle.slice_vec.proofs.Bounds.{joint_as, steps_as}
 use Rattle.slice_vec.proofs.DigitLemmas.{value-chosen, steady-chosen, value-fixed, steady-fixed, value-turned, steady-turned}
 use Rattle.slice_vec.proofs.Growing.{grows_none, grows_call, stop_call, some_bit, denotes_as, denotes_on, denotes_itself}
 use Rattle.slice_vec.proofs.Places.{false_function}
@@ -50,6 +53,15 @@ choice_is u v Is n xs ys i an bn s g live a b =
     ∙ ap (λ (f : Function). choice (function_of u.store n) f (function_of v.store bn)) a.is
     ∙ ap (λ (f : Function). choice (function_of u.store n) (digits_of u.store xs i) f) b.is
 
+-- its steps
+pub choice_joint : (u v : Shared) (Is : Property) (n : ℕ) (xs ys : List ℕ) (i an bn : ℕ) (w : Shared) (s t : ℕ) → IsConsistent u → Grows u Is v → IsLive u.store n → Denotes v.store an (digits_of u.store xs i) → Denotes v.store bn (digits_of u.store ys i) → TakesAtMost (joint_size_of v.store n an bn) v.store w.store s t → TakesAtMost (choosing u.store (function_of u.store n) (digits_of u.store xs) (digits_of u.store ys) i) v.store w.store s t
+unfolding choosing
+choice_joint u v Is n xs ys i an bn w s t sound g live a b h =
+    let m = denotes_on u v Is n (function_of u.store n) sound g (denotes_itself u.store n live) in
+    let x = digits_of u.store xs i in let y = digits_of u.store ys i in
+    steps_as (joint_size_of v.store n an bn) (joint_size_in u.store (function_of u.store n) x y) v.store w.store s t
+    (joint_as u.store v.store (function_of v.store n) (function_of v.store an) (function_of v.store bn) (function_of u.store n) x y g.extends.order m.is a.is b.is) h
+
 pub chosen_done : (u v : Shared) (n : ℕ) (xs ys zs : List ℕ) → StandsIn u.store xs → StandsIn u.store ys → Follows u (max (length xs) (length ys)) (chosen (function_of u.store n) (digits_of u.store xs) (digits_of u.store ys)) v zs → length zs ≡ max (length xs) (length ys) → IsChosen u.store v.store n xs ys zs
 chosen_done u v n xs ys zs hx hy h len =
     let f = function_of u.store n in
@@ -71,26 +83,6 @@ chosen_done u v n xs ys zs hx hy h len =
           ∙ ap (λ z. cond (f x) z (slice_value m b x)) (value_on (length xs - 1) m a x ha (omega (arith, len)))
           ∙ ap (λ z. cond (f x) (slice_value (length xs - 1) a x) z) (value_on (length ys - 1) m b x hb (omega (arith, len)));
     }
-
--- the cofactor at place i
-pub fixed_is : (u v : Shared) (t : ℕ) (b : Bool) (xs : List ℕ) (i an : ℕ) → Denotes v.store an (digits_of u.store xs i) → fix t b (function_of v.store an) ≡ fixed t b (digits_of u.store xs) i
-unfolding fixed
-fixed_is u v t b xs i an a = ap (fix t b) a.is
-
--- FALSE stays FALSE
-pub fixed_none : (d : Diagram) (t : ℕ) (b : Bool) → IsSound d → Denotes d 0 (fix t b (function_of d 0))
-fixed_none d t b s =
-    let none = false_function d s in
-    record { live = inl (omega arith); is = none ∙ ap (fix t b) (sym none) }
-
--- a cofactor that is known, where the same node is asked for
-pub fixed_again : (d : Diagram) (t : ℕ) (b : Bool) (a f m : ℕ) → a ≡ f → Denotes d m (fix t b (function_of d f)) → Denotes d m (fix t b (function_of d a))
-fixed_again d t b a f m e h = rw e h
-
--- what was made is known in the store after it
-pub fixed_next : (v w : Shared) (Is : Property) (t : ℕ) (b : Bool) (a m : ℕ) → IsConsistent v → Grows v Is w → IsLive v.store a → Denotes w.store m (fix t b (function_of v.store a)) → Denotes w.store m (fix t b (function_of w.store a))
-fixed_next v w Is t b a m s g live h =
-    denotes_as w.store m (fix t b (function_of v.store a)) (fix t b (function_of w.store a)) (ap (fix t b) (sym (function_on v.store w.store a s.store g.sound.store g.extends live))) h
 
 pub fixed_done : (u v : Shared) (t : ℕ) (b : Bool) (xs zs : List ℕ) → StandsIn u.store xs → Follows u (length xs) (fixed t b (digits_of u.store xs)) v zs → length zs ≡ length xs → IsFixed u.store v.store t b xs zs
 fixed_done u v t b xs zs hx h len =
@@ -144,6 +136,16 @@ turned_next u v w Was Is t n a m s first g ln la h =
     denotes_as w.store m (exchanged t (function_of v.store n) (function_of v.store a)) (exchanged t (function_of u.store n) (function_of w.store a))
     (ap (λ (f : Function). exchanged t f (function_of v.store a)) (stays u v Was n s first ln).is
     ∙ ap (exchanged t (function_of u.store n)) (sym (function_on v.store w.store a first.sound.store g.sound.store g.extends la))) h
+
+-- its steps
+pub turned_joint : (u v : Shared) (Is : Property) (t n : ℕ) (xs : List ℕ) (i an : ℕ) (w : Shared) (s0 s1 : ℕ) → IsConsistent u → Grows u Is v → IsLive u.store n → Denotes v.store an (digits_of u.store xs i) → TakesAtMost (joint_size_in v.store (function_of v.store n) (flip t (function_of v.store an)) (function_of v.store an)) v.store w.store s0 s1 → TakesAtMost (turning u.store t (function_of u.store n) (digits_of u.store xs) i) v.store w.store s0 s1
+unfolding turning
+turned_joint u v Is t n xs i an w s0 s1 sound g live a h =
+    let m = denotes_on u v Is n (function_of u.store n) sound g (denotes_itself u.store n live) in
+    let x = digits_of u.store xs i in
+    let f = function_of v.store an in
+    steps_as (joint_size_in v.store (function_of v.store n) (flip t f) f) (joint_size_in u.store (function_of u.store n) (flip t x) x) v.store w.store s0 s1
+    (joint_as u.store v.store (function_of v.store n) (flip t f) f (function_of u.store n) (flip t x) x g.extends.order m.is (ap (flip t) a.is) a.is) h
 
 pub turned_done : (u v : Shared) (t n : ℕ) (xs zs : List ℕ) → StandsIn u.store xs → Follows u (length xs) (turned t (function_of u.store n) (digits_of u.store xs)) v zs → length zs ≡ length xs → IsTurned u.store v.store t n xs zs
 turned_done u v t n xs zs hx h len =

@@ -19,6 +19,7 @@ grows_none v Is s = record {
   extends = same_store v.store;
   functions = functions_same v.store;
   capacity = refl;
+  cached = omega arith;
   made = makes_none v.store Is;
 }
 
@@ -28,6 +29,7 @@ grows_wider u v Is Are wider g = record {
   extends = g.extends;
   functions = g.functions;
   capacity = g.capacity;
+  cached = g.cached;
   made = makes_wider u.store v.store Is Are wider g.made;
 }
 
@@ -37,6 +39,7 @@ grows_then u v w Is g h = record {
   extends = extends_trans u.store v.store w.store g.extends h.extends;
   functions = functions_then u.store v.store w.store g.functions h.functions;
   capacity = h.capacity ∙ g.capacity;
+  cached = omega (arith, g.cached, h.cached);
   made = makes_then u.store v.store w.store Is g.sound.store h.sound.store h.extends g.made h.made;
 }
 
@@ -109,19 +112,12 @@ pub some_later : (vs : List ℕ) (f : Function) (gs : List Function) (p : Functi
 unfolding IsPrefixOfSome
 some_later vs f gs p h = inr h
 
--- whatever arises from each of two, or of three, functions
+-- whatever arises from each of two functions
 pub all_of_two : (vs : List ℕ) (f g : Function) (Is : Property) → ((p : Function) → IsPrefixOf vs f p → Is p) → ((p : Function) → IsPrefixOf vs g p → Is p) → (p : Function) → IsPrefixOfSome vs (f ∷ g ∷ []) p → Is p
 unfolding IsPrefixOfSome
 all_of_two vs f g Is at_f at_g p (inl h) = at_f p h
 all_of_two vs f g Is at_f at_g p (inr (inl h)) = at_g p h
 all_of_two vs f g Is at_f at_g p (inr (inr h)) = absurd h
-
-pub all_of_three : (vs : List ℕ) (f g h : Function) (Is : Property) → ((p : Function) → IsPrefixOf vs f p → Is p) → ((p : Function) → IsPrefixOf vs g p → Is p) → ((p : Function) → IsPrefixOf vs h p → Is p) → (p : Function) → IsPrefixOfSome vs (f ∷ g ∷ h ∷ []) p → Is p
-unfolding IsPrefixOfSome
-all_of_three vs f g h Is at_f at_g at_h p (inl is) = at_f p is
-all_of_three vs f g h Is at_f at_g at_h p (inr (inl is)) = at_g p is
-all_of_three vs f g h Is at_f at_g at_h p (inr (inr (inl is))) = at_h p is
-all_of_three vs f g h Is at_f at_g at_h p (inr (inr (inr is))) = absurd is
 
 -- one call, and another one after it
 pub first_grows : (v e : Shared) (f : Function) (gs : List Function) → Grows v (IsPrefixOf v.store.order f) e → Grows v (IsPrefixOfSome v.store.order (f ∷ gs)) e
@@ -141,24 +137,9 @@ pub second_stop : (v e w : Shared) (f q r : Function) → Grows v (IsPrefixOf v.
 second_stop v e w f q r g same why stop =
     stop_call v e w (IsPrefixOfSome v.store.order (f ∷ r ∷ [])) q r (first_grows v e f (r ∷ []) g) same (λ p is. second_wanted v.store.order f r p is) why stop
 
--- one call, and two functions after it
-later_wanted : (vs : List ℕ) (f : Function) (gs : List Function) (p : Function) → IsPrefixOfSome vs gs p → IsPrefixOfSome vs (f ∷ gs) p
-later_wanted vs f gs p h = some_later vs f gs p h
-
-pub rest_grows : (v e w : Shared) (f : Function) (qs rs : List Function) → Grows v (IsPrefixOf v.store.order f) e → Grows e (IsPrefixOfSome e.store.order qs) w → qs ≡ rs → Grows v (IsPrefixOfSome v.store.order (f ∷ rs)) w
-rest_grows v e w f qs rs g h same =
-    grows_calls v e w (IsPrefixOfSome v.store.order (f ∷ rs)) qs rs (first_grows v e f rs g) h same (λ p is. later_wanted v.store.order f rs p is)
-
-pub rest_stop : (v e w : Shared) (f : Function) (qs rs : List Function) → Grows v (IsPrefixOf v.store.order f) e → qs ≡ rs → (why : StoreStop) → StopIs w.store (IsPrefixOfSome e.store.order qs) why → StopIs w.store (IsPrefixOfSome v.store.order (f ∷ rs)) why
-rest_stop v e w f qs rs g same why stop =
-    stop_calls v e w (IsPrefixOfSome v.store.order (f ∷ rs)) qs rs (first_grows v e f rs g) same (λ p is. later_wanted v.store.order f rs p is) why stop
-
 pub lists_same : (f g h k : Function) → f ≡ h → g ≡ k → (f ∷ g ∷ []) ≡ (h ∷ k ∷ [])
 lists_same f g h k e d = ap (λ (w : Function). w ∷ g ∷ []) e ∙ ap (λ (w : Function). h ∷ w ∷ []) d
 
 -- a call of the function f, by another name
 pub renamed_grows : (v w : Shared) (f r : Function) → f ≡ r → Grows v (IsPrefixOf v.store.order f) w → Grows v (IsPrefixOf v.store.order r) w
 renamed_grows v w f r same g = rw (sym same) g
-
-pub renamed_stop : (d : Diagram) (vs : List ℕ) (f r : Function) → f ≡ r → (why : StoreStop) → StopIs d (IsPrefixOf vs f) why → StopIs d (IsPrefixOf vs r) why
-renamed_stop d vs f r same why stop = rw (sym same) stop

@@ -1,18 +1,25 @@
 -- The bits of a negation, one after another.
-use Rattle.std.proofs.Common.{◌≡◌, ℕ, suc, ◌+◌, ◌-◌, ◌<◌, ◌≤◌, neg_ℤ, cond, List, [], ◌∷◌, ◌++◌, length, refl, sym, ◌∙◌, ap, arith, length-append}
+use Rattle.std.proofs.Common.{◌≡◌, ℕ, false, suc, ◌+◌, ◌-◌, ◌<◌, ◌≤◌, neg_ℤ, cond, List, [], ◌∷◌, ◌++◌, length, refl, sym, ◌∙◌, ap, arith, length-append}
 use Rattle.node_store.specs.declared.node.StoreStop.{StoreStop}
 use Rattle.diagram_model.specs.Functions.{Function, IsPrefixOf}
-use Rattle.diagram_model.specs.Stores.{IsLive, function_of}
+use Rattle.diagram_model.specs.Stores.{Diagram, IsLive, function_of}
 use Rattle.diagram_ops.specs.Diagrams.{Shared, IsConsistent}
 use Rattle.diagram_ops.specs.Made.{Property, StopIs, IsPrefixOfSome}
+use Rattle.diagram_ops.specs.Bounds.{joint_size_of, TakesAtMost}
+use Rattle.slice_vec.specs.Bounds.{negating, carrying}
 use Rattle.slice_vec.specs.Digits.{Digits, IsSteady, odd, xor_of, flipped, one_carry, negated, slice_value}
 use Rattle.slice_vec.specs.Growing.{Grows, Denotes}
 use Rattle.slice_vec.specs.Places.{odd_at, less_at}
 use Rattle.slice_vec.specs.Slices.{bit_node, digits_of, StandsIn, first_bits, negation_functions, InNegation, IsNegation}
 use Rattle.slice_vec.proofs.Bits.{Shows, shows_none, shows_more, shows_digits, shows_stands, bit_denotes, steady-digits, steady_later, value_on}
+use Rattle.slice_vec.proofs.Bounds.{joint_as, steps_as}
 use Rattle.slice_vec.proofs.DigitLemmas.{value-negated, steady-negated, one_carry-less}
 use Rattle.slice_vec.proofs.Growing.{grows_none, grows_call, grows_calls, stop_call, stop_calls, some_left, some_right, some_bit, all_of_two, denotes_as, denotes_on, denotes_itself, lists_same}
-use Rattle.slice_vec.proofs.Places.{odd_same, less_same}
+use Rattle.slice_vec.proofs.Places.{odd_same, less_same, false_function}
+
+-- the steps of place i: the bit and the carry
+abbrev pub bit_steps : Diagram → ℕ → List ℕ → ℕ → ℕ
+bit_steps d n xs i = negating d (function_of d n) (digits_of d xs) i + carrying d (function_of d n) (digits_of d xs) i
 
 -- the negation so far, and the carry
 pub record Negates (u : Shared) (n : ℕ) (xs : List ℕ) (v : Shared) (ns : List ℕ) (m : ℕ) : Type 0 where
@@ -56,6 +63,30 @@ module _ (u v : Shared) (n : ℕ) (xs ns : List ℕ) (m i an : ℕ) (place : IsA
 
   carry_here : function_of v.store m ≡ one_carry (function_of u.store n) (digits_of u.store xs) i
   carry_here = place.negates.carries.is ∙ ap (one_carry (function_of u.store n) (digits_of u.store xs)) place.at
+
+  -- the joint sizes at place i
+  pub bit_joint : joint_size_of v.store an n m ≡ negating u.store (function_of u.store n) (digits_of u.store xs) i
+  unfolding negating
+  bit_joint =
+      let f = function_of u.store n in let a = digits_of u.store xs in
+      joint_as u.store v.store (function_of v.store an) (function_of v.store n) (function_of v.store m) (a i) f (one_carry f a i) place.negates.grows.extends.order a_denotes.is n_denotes.is carry_here
+
+  carry_joint : joint_size_of v.store m an 0 ≡ carrying u.store (function_of u.store n) (digits_of u.store xs) i
+  unfolding carrying
+  carry_joint =
+      let f = function_of u.store n in let a = digits_of u.store xs in
+      joint_as u.store v.store (function_of v.store m) (function_of v.store an) (function_of v.store 0) (one_carry f a i) (a i) (λ x. false) place.negates.grows.extends.order carry_here a_denotes.is (false_function v.store place.negates.grows.sound.store)
+
+  pub both_steps : (w : Shared) (s t : ℕ) → TakesAtMost (joint_size_of v.store an n m + joint_size_of v.store m an 0) v.store w.store s t → TakesAtMost (bit_steps u.store n xs i) v.store w.store s t
+  both_steps w s t h =
+      let f = function_of u.store n in let a = digits_of u.store xs in
+      steps_as (joint_size_of v.store an n m + joint_size_of v.store m an 0) (bit_steps u.store n xs i) v.store w.store s t
+      (ap (λ j. j + joint_size_of v.store m an 0) bit_joint ∙ ap (λ j. negating u.store f a i + j) carry_joint) h
+
+  pub sign_steps : (k : ℕ) (w : Shared) (s t : ℕ) → i ≡ k → TakesAtMost (joint_size_of v.store an n m) v.store w.store s t → TakesAtMost (negating u.store (function_of u.store n) (digits_of u.store xs) k) v.store w.store s t
+  sign_steps k w s t same h =
+      let f = function_of u.store n in let a = digits_of u.store xs in
+      steps_as (joint_size_of v.store an n m) (negating u.store f a k) v.store w.store s t (bit_joint ∙ ap (negating u.store f a) same) h
 
   bit_is : odd_at v.store an n m ≡ negated (function_of u.store n) (digits_of u.store xs) i
   bit_is =

@@ -1,18 +1,21 @@
 -- One place of a sum, by connectives.
-use Rattle.std.proofs.Common.{◌≡◌, ℕ, Bool, true, false, cond, List, Result, Ok, Err, IfOk, IfErr, inl, inr, refl, sym, ◌∙◌, ap, arith, length}
+use Rattle.std.proofs.Common.{◌≡◌, ◌≤◌, ℕ, Bool, true, false, cond, List, Result, Ok, Err, IfOk, IfErr, OnErr, inl, inr, refl, sym, ◌∙◌, ap, arith, length}
 use Rattle.std.specs.Prelude.{◌&&◌, not}
 use mathlib.Core.Path.{fun_ext}
 use Rattle.node_store.specs.declared.node.Node.{Node}
 use Rattle.node_store.specs.declared.node.StoreStop.{StoreStop}
+use Rattle.computed_cache.specs.declared.key.Key.{Key}
+use Rattle.computed_cache.specs.Entries.{Cached}
 use Rattle.diagram_model.specs.Functions.{Assignment, Function, IsPrefixOf}
 use Rattle.diagram_model.specs.Stores.{Diagram, IsLive, IsSound, Extends, KeepsFunctions, function_of}
 use Rattle.diagram_model.proofs.Growing.{function_on}
 use Rattle.diagram_model.proofs.Values.{value-small}
 use Rattle.diagram_ops.specs.Connectives.{connective, connected}
-use Rattle.diagram_ops.specs.Diagrams.{Shared, IsConsistent}
+use Rattle.diagram_ops.specs.Diagrams.{Shared, IsConsistent, with_answer}
 use Rattle.diagram_ops.specs.Made.{Property, MakesOnly, StopIs}
+use Rattle.diagram_ops.proofs.Right.{after_capacity}
 use Rattle.slice_vec.specs.declared.place.Pair.{Pair}
-use Rattle.slice_vec.specs.Digits.{xor, majority_bit, odd_bit, majority, odd, xor_of, and_of, less, choice}
+use Rattle.slice_vec.specs.Digits.{majority_bit, odd_bit, majority, odd, less, choice}
 use Rattle.slice_vec.specs.Growing.{Grows, Denotes}
 use Rattle.slice_vec.specs.Places.{IsPair, odd_at, majority_at, less_at, choice_at}
 
@@ -47,9 +50,20 @@ pub connected-majority : (f g h : Function) → connected 232 f g h ≡ majority
 unfolding connected majority
 connected-majority f g h = fun_ext (λ x. majority_table (f x) (g x) (h x))
 
--- the clauses of a connective, by another name of its function
-pub call_grows : (v w : Shared) (f r : Function) → f ≡ r → IsConsistent w → Extends v.store w.store → KeepsFunctions v.store w.store → w.cache.capacity ≡ v.cache.capacity → MakesOnly v.store w.store (IsPrefixOf v.store.order f) → Grows v (IsPrefixOf v.store.order r) w
-call_grows v w f r same sound extends functions capacity made = rw (sym same) (record { sound = sound; extends = extends; functions = functions; capacity = capacity; made = made })
+-- a call of a connective, by another name of its function
+pub call_grows : (v w : Shared) (k : Key) (o : Result Node StoreStop) (f r : Function) → f ≡ r → IsConsistent w → Extends v.store w.store → KeepsFunctions v.store w.store → IfOk o (λ n. w.cache ≡ with_answer v.cache k n.0) → OnErr o (w.cache ≡ v.cache) → length v.cache.entries ≤ length w.cache.entries → MakesOnly v.store w.store (IsPrefixOf v.store.order f) → Grows v (IsPrefixOf v.store.order r) w
+call_grows v w k o f r same sound extends functions cache stopped cached made = rw (sym same) (record { sound = sound; extends = extends; functions = functions; capacity = after_capacity v.cache w.cache k o cache stopped; cached = cached; made = made })
+
+-- a call that leaves the cache as it was
+pub keeping_grows : (v w : Shared) (Is : Property) → IsConsistent w → Extends v.store w.store → KeepsFunctions v.store w.store → w.cache ≡ v.cache → MakesOnly v.store w.store Is → Grows v Is w
+keeping_grows v w Is sound extends functions cache made = record {
+  sound = sound;
+  extends = extends;
+  functions = functions;
+  capacity = ap (λ (c : Cached). c.capacity) cache;
+  cached = omega (arith, ap (λ (c : Cached). length c.entries) cache);
+  made = made;
+}
 
 pub call_node : (d : Diagram) (f r : Function) (o : Result Node StoreStop) → f ≡ r → IfOk o (λ n. IsLive d n.0) → IfOk o (λ n. function_of d n.0 ≡ f) → IfOk o (λ n. Denotes d n.0 r)
 call_node d f r (Ok n) same live denotes = record { live = live; is = denotes ∙ same }
@@ -122,11 +136,6 @@ false_function d s = fun_ext (λ x. value-small d.slots (length d.order) d.order
 pub true_function : (d : Diagram) → IsSound d → function_of d 1 ≡ (λ x. true)
 unfolding function_of
 true_function d s = fun_ext (λ x. value-small d.slots (length d.order) d.order 1 s.diagram (omega arith) x)
-
-pub odd_on : (v w : Shared) (Is : Property) (a b c : ℕ) → IsConsistent v → Grows v Is w → IsLive v.store a → IsLive v.store b → IsLive v.store c → odd_at w.store a b c ≡ odd_at v.store a b c
-odd_on v w Is a b c s g la lb lc =
-    let on = λ (n : ℕ) (live : IsLive v.store n). function_on v.store w.store n s.store g.sound.store g.extends live in
-    odd_same (function_of w.store a) (function_of w.store b) (function_of w.store c) (function_of v.store a) (function_of v.store b) (function_of v.store c) (on a la) (on b lb) (on c lc)
 
 pub majority_on : (v w : Shared) (Is : Property) (a b c : ℕ) → IsConsistent v → Grows v Is w → IsLive v.store a → IsLive v.store b → IsLive v.store c → majority_at w.store a b c ≡ majority_at v.store a b c
 majority_on v w Is a b c s g la lb lc =

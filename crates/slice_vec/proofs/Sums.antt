@@ -1,18 +1,25 @@
 -- The bits of a sum, one after another.
-use Rattle.std.proofs.Common.{◌≡◌, ℕ, suc, ◌-◌, ◌<◌, ◌≤◌, ◌+ℤ◌, max, List, [], ◌∷◌, ◌++◌, length, inl, sym, ◌∙◌, ap, arith, length-append}
+use Rattle.std.proofs.Common.{◌≡◌, ℕ, suc, ◌+◌, ◌-◌, ◌<◌, ◌≤◌, ◌+ℤ◌, max, List, [], ◌∷◌, ◌++◌, length, inl, sym, ◌∙◌, ap, arith, length-append}
 use Rattle.node_store.specs.declared.node.StoreStop.{StoreStop}
 use Rattle.diagram_model.specs.Functions.{Function, IsPrefixOf}
-use Rattle.diagram_model.specs.Stores.{function_of}
+use Rattle.diagram_model.specs.Stores.{Diagram, function_of}
 use Rattle.diagram_ops.specs.Diagrams.{Shared, IsConsistent}
 use Rattle.diagram_ops.specs.Made.{Property, StopIs, IsPrefixOfSome}
+use Rattle.diagram_ops.specs.Bounds.{joint_size_of, TakesAtMost}
+use Rattle.slice_vec.specs.Bounds.{adding}
 use Rattle.slice_vec.specs.Digits.{Digits, IsSteady, carry, sum, slice_value}
 use Rattle.slice_vec.specs.Growing.{Grows, Denotes}
 use Rattle.slice_vec.specs.Places.{odd_at, majority_at}
 use Rattle.slice_vec.specs.Slices.{bit_node, digits_of, StandsIn, first_bits, sum_width, sum_functions, InSum, IsSum}
 use Rattle.slice_vec.proofs.Bits.{Shows, shows_none, shows_more, shows_digits, shows_stands, bit_denotes, steady-digits, steady_later, value_on}
+use Rattle.slice_vec.proofs.Bounds.{joint_as, steps_as}
 use Rattle.slice_vec.proofs.DigitLemmas.{value-sum, steady-sum}
 use Rattle.slice_vec.proofs.Growing.{grows_none, grows_call, grows_calls, stop_call, stop_calls, some_left, some_right, some_bit, all_of_two, denotes_as, lists_same}
 use Rattle.slice_vec.proofs.Places.{odd_same, majority_same, false_function}
+
+-- the steps of place i: the bit and the carry
+abbrev pub place_steps : Diagram → List ℕ → List ℕ → ℕ → ℕ
+place_steps d xs ys i = adding d (digits_of d xs) (digits_of d ys) i + adding d (digits_of d xs) (digits_of d ys) i
 
 -- the sum so far, and the carry
 pub record Ripples (u : Shared) (xs ys : List ℕ) (v : Shared) (ns : List ℕ) (m : ℕ) : Type 0 where
@@ -53,6 +60,21 @@ module _ (u v : Shared) (xs ys ns : List ℕ) (m i an bn : ℕ) (place : IsAtPla
 
   carry_here : function_of v.store m ≡ carry (digits_of u.store xs) (digits_of u.store ys) i
   carry_here = place.ripples.carries.is ∙ ap (carry (digits_of u.store xs) (digits_of u.store ys)) place.at
+
+  -- the joint size at place i
+  pub place_joint : joint_size_of v.store an bn m ≡ adding u.store (digits_of u.store xs) (digits_of u.store ys) i
+  unfolding adding
+  place_joint =
+      let a = digits_of u.store xs in let b = digits_of u.store ys in
+      joint_as u.store v.store (function_of v.store an) (function_of v.store bn) (function_of v.store m) (a i) (b i) (carry a b i) place.ripples.grows.extends.order a_denotes.is b_denotes.is carry_here
+
+  pub both_steps : (w : Shared) (s t : ℕ) → TakesAtMost (joint_size_of v.store an bn m + joint_size_of v.store an bn m) v.store w.store s t → TakesAtMost (place_steps u.store xs ys i) v.store w.store s t
+  both_steps w s t h = steps_as (joint_size_of v.store an bn m + joint_size_of v.store an bn m) (place_steps u.store xs ys i) v.store w.store s t (ap (λ j. j + j) place_joint) h
+
+  pub top_steps : (n : ℕ) (w : Shared) (s t : ℕ) → i ≡ n → TakesAtMost (joint_size_of v.store an bn m) v.store w.store s t → TakesAtMost (adding u.store (digits_of u.store xs) (digits_of u.store ys) n) v.store w.store s t
+  top_steps n w s t same h =
+      let a = digits_of u.store xs in let b = digits_of u.store ys in
+      steps_as (joint_size_of v.store an bn m) (adding u.store a b n) v.store w.store s t (place_joint ∙ ap (adding u.store a b) same) h
 
   place_sum : odd_at v.store an bn m ≡ sum (digits_of u.store xs) (digits_of u.store ys) i
   unfolding sum

@@ -6,7 +6,7 @@ use Rattle.diagram_model.specs.Functions.{Assignment}
 use Rattle.diagram_model.specs.Stores.{Diagram, IsLive, IsSound, function_of}
 use Rattle.diagram_model.proofs.Canonical.{same_node}
 use Rattle.slice_vec.specs.Digits.{Digits, slice_value, IsSteady}
-use Rattle.slice_vec.specs.Slices.{bit_node, digits_of, value_at, StandsIn, SameValues, IsSame, IsFewest, IsWithin, AreWithin}
+use Rattle.slice_vec.specs.Slices.{bit_node, digits_of, value_at, StandsIn, SameValues, IsSame, IsFewest, AreWithin}
 use Rattle.slice_vec.specs.Trims.{IsTrimmed}
 use Rattle.slice_vec.proofs.Bits.{lt_or_le, bit_within, bit_beyond, bit_live, steady-digits, value_on}
 use Rattle.slice_vec.proofs.Ranges.{InRange, value-in_range, range-wider, sign-repeated}

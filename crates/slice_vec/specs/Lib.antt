@@ -1,6 +1,9 @@
+-- What callers believe:
+pub mod Bounds
 pub mod Digits
 pub mod Growing
+pub mod Slices
+-- Words of private functions:
 pub mod Places
 pub mod Row
-pub mod Slices
 pub mod Trims

@@ -2,8 +2,10 @@
 ghost use Rattle.std.specs.Prelude.{IfOk, IfErr, length, max};
 ghost use Rattle.diagram_model.specs.Functions.{IsPrefixOf};
 ghost use Rattle.diagram_model.specs.Stores.{IsLive};
+ghost use Rattle.diagram_ops.specs.Bounds.{joint_size_of, TakesAtMost};
 ghost use Rattle.diagram_ops.specs.Diagrams.{IsConsistent};
 ghost use Rattle.diagram_ops.specs.Made.{StopIs};
+ghost use Rattle.slice_vec.specs.Bounds.{choice_steps};
 ghost use Rattle.slice_vec.specs.Growing.{Grows, Denotes};
 ghost use Rattle.slice_vec.specs.Places.{choice_at};
 ghost use Rattle.slice_vec.specs.Slices.{StandsIn, InChosen, IsChosen};
@@ -16,7 +18,7 @@ use std::sync::ledger::Ledger;
 use steps::Steps;
 
 /// The table that is the second of three where the first is true, else the third.
-const CHOICE: u8 = 202;
+pub const CHOICE: u8 = 202;
 
 /// The function of `a` where `n` is true, else that of `b`.
 fn choose<L: Ledger>(
@@ -33,6 +35,7 @@ fn choose<L: Ledger>(
     ensures grows { Grows d.old (IsPrefixOf d.old.store.order (choice_at d.old.store n.0 a.0 b.0)) d.new }
     ensures node { IfOk result (λ m. Denotes d.new.store m.0 (choice_at d.old.store n.0 a.0 b.0)) }
     ensures stop { IfErr result (StopIs d.new.store (IsPrefixOf d.old.store.order (choice_at d.old.store n.0 a.0 b.0))) }
+    ensures steps { TakesAtMost (joint_size_of d.old.store n.0 a.0 b.0) d.old.store d.new.store steps.old steps.new }
 {
     if a == b {
         return Ok(a);
@@ -63,6 +66,7 @@ pub fn select<L: Ledger>(
     ensures chosen { IfOk result (IsChosen d.old.store d.new.store n.0 x.now y.now) }
     ensures grows { Grows d.old (InChosen d.old.store n.0 x.now y.now) d.new }
     ensures stop { IfErr result (StopIs d.new.store (InChosen d.old.store n.0 x.now y.now)) }
+    ensures steps { TakesAtMost (choice_steps d.old.store n.0 x.now y.now) d.old.store d.new.store steps.old steps.new }
 {
     let _cached = d.cached();
     let width = x.width().max(y.width());

@@ -2,9 +2,11 @@
 ghost use Rattle.std.specs.Prelude.{◌<◌, IfOk, IfErr, length};
 ghost use Rattle.diagram_model.specs.Functions.{IsPrefixOf};
 ghost use Rattle.diagram_model.specs.Stores.{IsLive, function_of};
+ghost use Rattle.diagram_ops.specs.Bounds.{joint_size_in, TakesAtMost};
 ghost use Rattle.diagram_ops.specs.Diagrams.{IsConsistent};
-ghost use Rattle.diagram_ops.specs.Flips.{exchanged};
+ghost use Rattle.diagram_ops.specs.Flips.{flip, exchanged};
 ghost use Rattle.diagram_ops.specs.Made.{StopIs};
+ghost use Rattle.slice_vec.specs.Bounds.{turn_steps};
 ghost use Rattle.slice_vec.specs.Growing.{Grows, Denotes};
 ghost use Rattle.slice_vec.specs.Slices.{StandsIn, InTurned, IsTurned};
 
@@ -40,6 +42,7 @@ fn flip_bit<L: Ledger>(
     ensures grows { Grows d.old (IsPrefixOf d.old.store.order (exchanged var (function_of d.old.store n.0) (function_of d.old.store a.0))) d.new }
     ensures node { IfOk result (λ m. Denotes d.new.store m.0 (exchanged var (function_of d.old.store n.0) (function_of d.old.store a.0))) }
     ensures stop { IfErr result (StopIs d.new.store (IsPrefixOf d.old.store.order (exchanged var (function_of d.old.store n.0) (function_of d.old.store a.0)))) }
+    ensures steps { TakesAtMost (joint_size_in d.old.store (function_of d.old.store n.0) (flip var (function_of d.old.store a.0)) (function_of d.old.store a.0)) d.old.store d.new.store steps.old steps.new }
 {
     if a == below.from {
         return Ok(below.to);
@@ -64,6 +67,7 @@ pub fn flip_where<L: Ledger>(
     ensures turned { IfOk result (IsTurned d.old.store d.new.store var n.0 x.now) }
     ensures grows { Grows d.old (InTurned d.old.store var n.0 x.now) d.new }
     ensures stop { IfErr result (StopIs d.new.store (InTurned d.old.store var n.0 x.now)) }
+    ensures steps { TakesAtMost (turn_steps d.old.store var n.0 x.now) d.old.store d.new.store steps.old steps.new }
 {
     let _cached = d.cached();
     let mut row = Row::with_room(x.alloc(), x.width())?;

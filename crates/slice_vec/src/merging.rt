@@ -2,21 +2,21 @@
 ghost use Rattle.std.specs.Prelude.{◌<◌, IfOk, IfErr, length, max};
 ghost use Rattle.diagram_model.specs.Functions.{IsPrefixOf};
 ghost use Rattle.diagram_model.specs.Stores.{IsLive, function_of};
+ghost use Rattle.diagram_ops.specs.Bounds.{TakesAtMost};
 ghost use Rattle.diagram_ops.specs.Diagrams.{IsConsistent, variable_of};
 ghost use Rattle.diagram_ops.specs.Made.{StopIs};
+ghost use Rattle.slice_vec.specs.Bounds.{merging, merge_steps};
 ghost use Rattle.slice_vec.specs.Growing.{Grows, Denotes};
 ghost use Rattle.slice_vec.specs.Places.{merge_at};
 ghost use Rattle.slice_vec.specs.Slices.{StandsIn, InMerged, IsMerged};
 
+use crate::choice::CHOICE;
 use crate::row::Row;
 use crate::slices::Slices;
 use diagram_ops::Diagrams;
 use node_store::{Node, StoreStop};
 use std::sync::ledger::Ledger;
 use steps::Steps;
-
-/// The table that is the second of three where the first is true, else the third.
-const CHOICE: u8 = 202;
 
 /// The table that is the third of three where the first is true, else the second.
 const OTHER: u8 = 172;
@@ -39,6 +39,7 @@ fn merge_bit<L: Ledger>(
     ensures grows { Grows d.old (IsPrefixOf d.old.store.order (merge_at var bit (function_of d.old.store a.0) (function_of d.old.store b.0))) d.new }
     ensures node { IfOk result (λ m. Denotes d.new.store m.0 (merge_at var bit (function_of d.old.store a.0) (function_of d.old.store b.0))) }
     ensures stop { IfErr result (StopIs d.new.store (IsPrefixOf d.old.store.order (merge_at var bit (function_of d.old.store a.0) (function_of d.old.store b.0)))) }
+    ensures steps { TakesAtMost (merging d.old.store var bit (function_of d.old.store a.0) (function_of d.old.store b.0)) d.old.store d.new.store steps.old steps.new }
 {
     if bit {
         return d.apply3_flipped::<OTHER, _>(n, b, a, var, steps);
@@ -66,6 +67,7 @@ pub fn select_fixed<L: Ledger>(
     ensures merged { IfOk result (IsMerged d.old.store d.new.store var bit x.now y.now) }
     ensures grows { Grows d.old (InMerged d.old.store var bit x.now y.now) d.new }
     ensures stop { IfErr result (StopIs d.new.store (InMerged d.old.store var bit x.now y.now)) }
+    ensures steps { TakesAtMost (merge_steps d.old.store var bit x.now y.now) d.old.store d.new.store steps.old steps.new }
 {
     let _cached = d.cached();
     let width = x.width().max(y.width());

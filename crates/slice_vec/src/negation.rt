@@ -1,7 +1,9 @@
 //! Negations.
 ghost use Rattle.std.specs.Prelude.{◌≤◌, IfOk, IfErr, length};
 ghost use Rattle.diagram_model.specs.Stores.{IsLive};
+ghost use Rattle.diagram_ops.specs.Bounds.{TakesAtMost};
 ghost use Rattle.diagram_ops.specs.Made.{StopIs};
+ghost use Rattle.slice_vec.specs.Bounds.{negation_steps};
 ghost use Rattle.slice_vec.specs.Growing.{Grows};
 ghost use Rattle.slice_vec.specs.Slices.{StandsIn, InNegation, IsNegation};
 
@@ -29,6 +31,7 @@ pub fn negate_where<L: Ledger>(
     ensures negation { IfOk result (IsNegation d.old.store d.new.store n.0 x.now) }
     ensures grows { Grows d.old (InNegation d.old.store n.0 x.now) d.new }
     ensures stop { IfErr result (StopIs d.new.store (InNegation d.old.store n.0 x.now)) }
+    ensures steps { TakesAtMost (negation_steps d.old.store n.0 x.now) d.old.store d.new.store steps.old steps.new }
 {
     let _cached = d.cached();
     let width = x.width();

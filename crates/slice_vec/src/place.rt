@@ -1,7 +1,8 @@
 //! One place of a sum: the bit and the carry of three bits.
-ghost use Rattle.std.specs.Prelude.{◌≡◌, IfOk, IfErr, IfSome, ◌∷◌, []};
+ghost use Rattle.std.specs.Prelude.{◌≡◌, ◌+◌, IfOk, IfErr, IfSome, ◌∷◌, []};
 ghost use Rattle.diagram_model.specs.Functions.{IsPrefixOf};
 ghost use Rattle.diagram_model.specs.Stores.{IsLive};
+ghost use Rattle.diagram_ops.specs.Bounds.{joint_size_of, TakesAtMost};
 ghost use Rattle.diagram_ops.specs.Diagrams.{IsConsistent};
 ghost use Rattle.diagram_ops.specs.Made.{StopIs, IsPrefixOfSome};
 ghost use Rattle.slice_vec.specs.Growing.{Grows, Denotes};
@@ -66,6 +67,7 @@ pub fn odd<L: Ledger>(
     ensures grows { Grows d.old (IsPrefixOf d.old.store.order (odd_at d.old.store a.0 b.0 c.0)) d.new }
     ensures node { IfOk result (λ n. Denotes d.new.store n.0 (odd_at d.old.store a.0 b.0 c.0)) }
     ensures stop { IfErr result (StopIs d.new.store (IsPrefixOf d.old.store.order (odd_at d.old.store a.0 b.0 c.0))) }
+    ensures steps { TakesAtMost (joint_size_of d.old.store a.0 b.0 c.0) d.old.store d.new.store steps.old steps.new }
 {
     if let Some(pair) = paired(a, b, c) {
         return Ok(pair.third);
@@ -88,6 +90,7 @@ fn majority<L: Ledger>(
     ensures grows { Grows d.old (IsPrefixOf d.old.store.order (majority_at d.old.store a.0 b.0 c.0)) d.new }
     ensures node { IfOk result (λ n. Denotes d.new.store n.0 (majority_at d.old.store a.0 b.0 c.0)) }
     ensures stop { IfErr result (StopIs d.new.store (IsPrefixOf d.old.store.order (majority_at d.old.store a.0 b.0 c.0))) }
+    ensures steps { TakesAtMost (joint_size_of d.old.store a.0 b.0 c.0) d.old.store d.new.store steps.old steps.new }
 {
     if let Some(pair) = paired(a, b, c) {
         return Ok(pair.twice);
@@ -111,6 +114,7 @@ pub fn add_bits<L: Ledger>(
     ensures bit { IfOk result (λ r. Denotes d.new.store r.bit.0 (odd_at d.old.store a.0 b.0 c.0)) }
     ensures carry { IfOk result (λ r. Denotes d.new.store r.carry.0 (majority_at d.old.store a.0 b.0 c.0)) }
     ensures stop { IfErr result (StopIs d.new.store (IsPrefixOfSome d.old.store.order (odd_at d.old.store a.0 b.0 c.0 ∷ majority_at d.old.store a.0 b.0 c.0 ∷ []))) }
+    ensures steps { TakesAtMost (joint_size_of d.old.store a.0 b.0 c.0 + joint_size_of d.old.store a.0 b.0 c.0) d.old.store d.new.store steps.old steps.new }
 {
     let bit = odd(d, a, b, c, steps)?;
     let carry = majority(d, a, b, c, steps)?;
@@ -130,6 +134,7 @@ fn less<L: Ledger>(
     ensures grows { Grows d.old (IsPrefixOf d.old.store.order (less_at d.old.store f.0 g.0)) d.new }
     ensures node { IfOk result (λ n. Denotes d.new.store n.0 (less_at d.old.store f.0 g.0)) }
     ensures stop { IfErr result (StopIs d.new.store (IsPrefixOf d.old.store.order (less_at d.old.store f.0 g.0))) }
+    ensures steps { TakesAtMost (joint_size_of d.old.store f.0 g.0 0) d.old.store d.new.store steps.old steps.new }
 {
     if f == FALSE {
         return Ok(f);
@@ -156,6 +161,7 @@ pub fn negate_bits<L: Ledger>(
     ensures bit { IfOk result (λ r. Denotes d.new.store r.bit.0 (odd_at d.old.store a.0 n.0 c.0)) }
     ensures carry { IfOk result (λ r. Denotes d.new.store r.carry.0 (less_at d.old.store c.0 a.0)) }
     ensures stop { IfErr result (StopIs d.new.store (IsPrefixOfSome d.old.store.order (odd_at d.old.store a.0 n.0 c.0 ∷ less_at d.old.store c.0 a.0 ∷ []))) }
+    ensures steps { TakesAtMost (joint_size_of d.old.store a.0 n.0 c.0 + joint_size_of d.old.store c.0 a.0 0) d.old.store d.new.store steps.old steps.new }
 {
     let bit = odd(d, a, n, c, steps)?;
     let carry = less(d, c, a, steps)?;

@@ -1,5 +1,6 @@
 //! Lists of nodes as integers.
 ghost use Rattle.std.specs.Prelude.{◌≡◌, ◌<◌, length};
+ghost use Rattle.diagram_ops.specs.Cofactors.{numbers_of};
 ghost use Rattle.slice_vec.specs.Slices.{bit_node};
 
 use node_store::Node;
@@ -41,6 +42,12 @@ impl Slices {
         } else {
             bits[bits.len() - 1]
         }
+    }
+
+    pub(crate) fn nodes(&self) -> &[Node]
+        ensures { numbers_of result.now ≡ self.now }
+    {
+        &self.bits
     }
 
     pub(crate) fn alloc(&self) -> Global {

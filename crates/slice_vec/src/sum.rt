@@ -1,6 +1,8 @@
 //! Sums.
 ghost use Rattle.std.specs.Prelude.{◌≤◌, IfOk, IfErr, length};
+ghost use Rattle.diagram_ops.specs.Bounds.{TakesAtMost};
 ghost use Rattle.diagram_ops.specs.Made.{StopIs};
+ghost use Rattle.slice_vec.specs.Bounds.{sum_steps};
 ghost use Rattle.slice_vec.specs.Growing.{Grows};
 ghost use Rattle.slice_vec.specs.Slices.{StandsIn, InSum, IsSum};
 
@@ -30,6 +32,7 @@ pub fn add<L: Ledger>(
     ensures sum { IfOk result (IsSum d.old.store d.new.store x.now y.now) }
     ensures grows { Grows d.old (InSum d.old.store x.now y.now) d.new }
     ensures stop { IfErr result (StopIs d.new.store (InSum d.old.store x.now y.now)) }
+    ensures steps { TakesAtMost (sum_steps d.old.store x.now y.now) d.old.store d.new.store steps.old steps.new }
 {
     let _cached = d.cached();
     let width = x.width().max(y.width());

@@ -1,16 +1,32 @@
-use Rattle.std.proofs.Common.{rules, arith, ◌≡◌, ap, ◌<◌, ◌∷◌, [], length, max, length-append}
+use Rattle.std.proofs.Common.{rules, arith, ◌+◌, ◌≡◌, ap, ◌<◌, ◌∷◌, [], length, max, length-append}
 use Rattle.diagram_model.specs.Stores.{function_of}
 use Rattle.diagram_ops.specs.Diagrams.{variable_of}
 use Rattle.diagram_ops.specs.Made.{StopIs, IsPrefixOfSome}
+use Rattle.slice_vec.specs.Bounds.{merging, merge_steps}
 use Rattle.slice_vec.specs.Digits.{chosen, fixed}
 use Rattle.slice_vec.specs.Growing.{Denotes}
 use Rattle.slice_vec.specs.Places.{merge_at}
 use Rattle.slice_vec.specs.Slices.{digits_of, first_bits}
 use Rattle.slice_vec.proofs.Bits.{bit_denotes}
 use Rattle.slice_vec.proofs.Growing.{denotes_on}
-use Rattle.slice_vec.proofs.Followed.{Follows, next_grows, next_stops, follows_more}
-use Rattle.slice_vec.proofs.Joined.{merge_is, merged_done}
+use Rattle.slice_vec.proofs.Followed.{Follows, follows_none, next_grows, next_stops, follows_more}
+use Rattle.slice_vec.proofs.Joined.{merge_is, merged_joint, merged_done}
+use Rattle.slice_vec.proofs.Bounds.{steps_none, steps_begin, steps_place, steps_short, steps_all}
 use Rattle.slice_vec.proofs.merging.select_fixed.Goals as goal
+
+pub loop-i-init : goal.loop-i-init
+loop-i-init g c =
+    let u = c.args.d.now in
+    let xs = c.args.x.now in let ys = c.args.y.now in let t = c.args.var in let bit = c.args.bit in
+    let k = max (length xs) (length ys) in
+    let s = chosen (variable_of t) (fixed t bit (digits_of u.store xs)) (fixed t bit (digits_of u.store ys)) in
+    let none : Follows u k s u c.in_ok-row.row.nodes = rw (ap (λ r. r.nodes) c.in_ok-row.ensures) (follows_none u k s c.cached-cached.ensures.sound) in
+    record {
+      count = ap (λ r. length r.nodes) c.in_ok-row.ensures;
+      room = omega (arith, ap (λ r. r.room) c.in_ok-row.ensures, c.max-width.ensures, c.width.ensures, c.width-2.ensures);
+      follows = none;
+      steps = steps_begin (λ j. merging u.store t bit (digits_of u.store xs j) (digits_of u.store ys j)) u.store c.args.steps.now;
+    }
 
 pub merge_bit-requires-clause-a : goal.merge_bit-requires-clause-a
 merge_bit-requires-clause-a g c =
@@ -104,6 +120,7 @@ loop-i-preserved g c =
       count = omega (arith, ap length c.push.ensures.nodes, length-append ns (c.in_ok-merged.merged.0 ∷ []), c.loop-i.invariant.count);
       room = omega (arith, c.loop-i.invariant.room, c.push.ensures.room);
       follows = follows_more u k s v ns h i c.loop-i.invariant.count f same c.merge_bit.new.d c.push.new.self.nodes c.in_ok-merged.merged.0 less c.merge_bit.ensures.grows c.in_ok-merged.ensures.node c.push.ensures.nodes;
+      steps = steps_place (λ j. merging u.store t bit (digits_of u.store xs j) (digits_of u.store ys j)) i (i + 1) u.store v.store c.merge_bit.new.d.store c.args.steps.now c.loop-i.steps c.merge_bit.new.steps (omega arith) c.loop-i.invariant.steps (merged_joint u v t bit xs ys i an bn c.merge_bit.new.d c.loop-i.steps c.merge_bit.new.steps h.grows.extends a b c.merge_bit.ensures.steps);
     }
 
 pub returns-clause-merged : goal.returns-clause-merged
@@ -116,3 +133,28 @@ returns-clause-merged g c =
     let made : zs ≡ c.loop-i.row.nodes = c.into_slices.ensures in
     let h : Follows u k s v zs = rw made c.loop-i.invariant.follows in
     merged_done u v t bit xs ys zs c.requires.x c.requires.y h (omega (arith, ap length made, c.loop-i.invariant.count, c.loop-i-test.false, c.loop-i.auto.i-end, c.max-width.ensures, c.width.ensures, c.width-2.ensures))
+
+pub returns-in_err-row-clause-steps : goal.returns-in_err-row-clause-steps
+returns-in_err-row-clause-steps g c = steps_none c.args.d.now.store (merge_steps c.args.d.now.store c.args.var c.args.bit c.args.x.now c.args.y.now) c.args.steps.now
+
+pub returns-in_err-merged-clause-steps : goal.returns-in_err-merged-clause-steps
+returns-in_err-merged-clause-steps g c =
+    let u = c.args.d.now in let v = c.loop-i.d in
+    let xs = c.args.x.now in let ys = c.args.y.now in let n = c.args.n.0 in let t = c.args.var in let bit = c.args.bit in
+    let k = max (length xs) (length ys) in
+    let s = chosen (variable_of t) (fixed t bit (digits_of u.store xs)) (fixed t bit (digits_of u.store ys)) in
+    let ns = c.loop-i.row.nodes in let i = c.loop-i.i in
+    let an = c.bit.result.0 in let bn = c.bit-in-loop-i.result.0 in
+    let h : Follows u k s v ns = c.loop-i.invariant.follows in
+    let began = c.cached-cached.ensures.sound in
+    let a : Denotes v.store an (digits_of u.store xs i) = bit_denotes u v (IsPrefixOfSome u.store.order (first_bits k s)) xs i an began h.grows c.requires.x c.bit.ensures in
+    let b : Denotes v.store bn (digits_of u.store ys i) = bit_denotes u v (IsPrefixOfSome u.store.order (first_bits k s)) ys i bn began h.grows c.requires.y c.bit-in-loop-i.ensures in
+    let less : i < k = omega (arith, c.loop-i-test.true, c.max-width.ensures, c.width.ensures, c.width-2.ensures) in
+    steps_short (λ j. merging u.store t bit (digits_of u.store xs j) (digits_of u.store ys j)) i k u.store v.store c.merge_bit.new.d.store c.args.steps.now c.loop-i.steps c.merge_bit.new.steps less c.loop-i.invariant.steps (merged_joint u v t bit xs ys i an bn c.merge_bit.new.d c.loop-i.steps c.merge_bit.new.steps h.grows.extends a b c.merge_bit.ensures.steps)
+
+pub returns-clause-steps : goal.returns-clause-steps
+returns-clause-steps g c =
+    let u = c.args.d.now in let v = c.loop-i.d in
+    let xs = c.args.x.now in let ys = c.args.y.now in let t = c.args.var in let bit = c.args.bit in
+    let k = max (length xs) (length ys) in
+    steps_all (λ j. merging u.store t bit (digits_of u.store xs j) (digits_of u.store ys j)) c.loop-i.i k u.store v.store c.args.steps.now c.loop-i.steps (omega (arith, c.loop-i-test.false, c.loop-i.auto.i-end, c.max-width.ensures, c.width.ensures, c.width-2.ensures)) c.loop-i.invariant.steps

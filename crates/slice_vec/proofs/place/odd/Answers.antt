@@ -1,6 +1,8 @@
 use Rattle.diagram_model.specs.Stores.{function_of}
-use Rattle.diagram_ops.specs.Diagrams.{connective_of}
+use Rattle.diagram_ops.specs.Diagrams.{connective_of, key_of}
 use Rattle.slice_vec.specs.Places.{odd_at}
+use Rattle.diagram_ops.specs.Bounds.{joint_size_of}
+use Rattle.slice_vec.proofs.Bounds.{steps_none}
 use Rattle.slice_vec.proofs.Places.{pair_odd, connected-odd, call_grows, call_node, call_stop}
 use Rattle.slice_vec.proofs.place.odd.Goals as goal
 
@@ -14,7 +16,7 @@ returns-clause-grows g c =
     let w = c.apply3.new.self in
     let a = c.args.a.0 in let b = c.args.b.0 in let k = c.args.c.0 in
     let same = connected-odd (function_of v.store a) (function_of v.store b) (function_of v.store k) in
-    call_grows v w (connective_of 150 v.store a b k) (odd_at v.store a b k) same c.apply3.ensures.sound c.apply3.ensures.extends c.apply3.ensures.functions c.apply3.ensures.capacity c.apply3.ensures.made
+    call_grows v w (key_of 150 a b k) c.apply3.result (connective_of 150 v.store a b k) (odd_at v.store a b k) same c.apply3.ensures.sound c.apply3.ensures.extends c.apply3.ensures.functions c.apply3.ensures.cache c.apply3.ensures.stopped c.apply3.ensures.cached c.apply3.ensures.made
 
 pub returns-clause-node : goal.returns-clause-node
 returns-clause-node g c =
@@ -29,3 +31,6 @@ returns-clause-stop g c =
     let a = c.args.a.0 in let b = c.args.b.0 in let k = c.args.c.0 in
     let same = connected-odd (function_of v.store a) (function_of v.store b) (function_of v.store k) in
     call_stop c.apply3.new.self.store v.store.order (connective_of 150 v.store a b k) (odd_at v.store a b k) c.apply3.result same c.apply3.ensures.stop
+
+pub returns-in-Some-clause-steps : goal.returns-in-Some-clause-steps
+returns-in-Some-clause-steps g c = steps_none c.args.d.now.store (joint_size_of c.args.d.now.store c.args.a.0 c.args.b.0 c.args.c.0) c.args.steps.now

@@ -1,7 +1,9 @@
-use Rattle.std.proofs.Common.{rules, arith, ◌≡◌, ◌∙◌, ap, suc, ◌<◌, ◌∷◌, [], length, max, length-append, ◌++◌}
+use Rattle.std.proofs.Common.{rules, arith, ◌+◌, ◌≡◌, ◌∙◌, ap, suc, ◌<◌, ◌∷◌, [], length, max, length-append, ◌++◌}
 use Rattle.diagram_ops.specs.Made.{StopIs}
-use Rattle.slice_vec.specs.Slices.{InSum, sum_width}
-use Rattle.slice_vec.proofs.Sums.{Ripples, IsAtPlace, ripples_none, a_denotes, b_denotes, place_grows, place_stops, ripples_more, top_grows, top_stops, sum_done}
+use Rattle.slice_vec.specs.Bounds.{total, adding, sum_steps}
+use Rattle.slice_vec.specs.Slices.{InSum, sum_width, digits_of}
+use Rattle.slice_vec.proofs.Sums.{Ripples, IsAtPlace, ripples_none, a_denotes, b_denotes, place_grows, place_stops, ripples_more, top_grows, top_stops, sum_done, place_steps, both_steps, top_steps}
+use Rattle.slice_vec.proofs.Bounds.{steps_none, steps_begin, steps_place, steps_stop, steps_all, steps_then}
 use Rattle.slice_vec.proofs.sum.add.Goals as goal
 
 pub loop-i-init : goal.loop-i-init
@@ -13,6 +15,7 @@ loop-i-init g c =
       count = ap (λ r. length r.nodes) c.in_ok-row.ensures;
       room = omega (arith, ap (λ r. r.room) c.in_ok-row.ensures, c.max-width.ensures, c.width.ensures, c.width-2.ensures);
       ripples = none;
+      steps = steps_begin (place_steps u.store xs ys) u.store c.args.steps.now;
     }
 
 pub add_bits-requires-clause-a : goal.add_bits-requires-clause-a
@@ -106,6 +109,7 @@ loop-i-preserved g c =
       count = omega (arith, ap length c.push.ensures.nodes, length-append ns (c.in_ok-place.place.bit.0 ∷ []), c.loop-i.invariant.count);
       room = omega (arith, c.loop-i.invariant.room, c.push.ensures.room);
       ripples = ripples_more u v xs ys ns m i an bn place c.add_bits.new.d c.push.new.self.nodes c.in_ok-place.place.bit.0 c.in_ok-place.place.carry.0 less c.add_bits.ensures.grows c.in_ok-place.ensures.bit c.in_ok-place.ensures.carry c.push.ensures.nodes;
+      steps = steps_place (place_steps u.store xs ys) i (i + 1) u.store v.store c.add_bits.new.d.store c.args.steps.now c.loop-i.steps c.add_bits.new.steps (omega arith) c.loop-i.invariant.steps (both_steps u v xs ys ns m i an bn place c.add_bits.new.d c.loop-i.steps c.add_bits.new.steps c.add_bits.ensures.steps);
     }
 
 pub odd-requires-clause-a : goal.odd-requires-clause-a
@@ -215,3 +219,69 @@ returns-clause-grows g c =
     } in
     let wide : i ≡ max (length xs) (length ys) = omega (arith, c.max-width.ensures, c.width.ensures, c.width-2.ensures) in
     top_grows u v xs ys ns m i an bn place c.odd.new.d (omega (arith, wide)) c.odd.ensures.grows
+
+pub returns-in_err-row-clause-steps : goal.returns-in_err-row-clause-steps
+returns-in_err-row-clause-steps g c = steps_none c.args.d.now.store (sum_steps c.args.d.now.store c.args.x.now c.args.y.now) c.args.steps.now
+
+pub returns-in_err-place-clause-steps : goal.returns-in_err-place-clause-steps
+returns-in_err-place-clause-steps g c =
+    let u = c.args.d.now in let v = c.loop-i.d in
+    let xs = c.args.x.now in let ys = c.args.y.now in
+    let ns = c.loop-i.row.nodes in let m = c.loop-i.carry.0 in
+    let i = c.loop-i.i in let an = c.bit.result.0 in let bn = c.bit-in-loop-i.result.0 in
+    let place : IsAtPlace u v xs ys ns m i an bn = record {
+      began = c.cached-cached.ensures.sound;
+      stands_x = c.requires.x;
+      stands_y = c.requires.y;
+      ripples = c.loop-i.invariant.ripples;
+      at = c.loop-i.invariant.count;
+      a_is = c.bit.ensures;
+      b_is = c.bit-in-loop-i.ensures;
+    } in
+    let less : suc i < sum_width xs ys = omega (arith, c.loop-i-test.true, c.max-width.ensures, c.width.ensures, c.width-2.ensures) in
+    let k = max (length xs) (length ys) in
+    let within : i < k = omega (arith, less) in
+    steps_stop (place_steps u.store xs ys) i k (adding u.store (digits_of u.store xs) (digits_of u.store ys) k) u.store v.store c.add_bits.new.d.store c.args.steps.now c.loop-i.steps c.add_bits.new.steps within c.loop-i.invariant.steps
+    (both_steps u v xs ys ns m i an bn place c.add_bits.new.d c.loop-i.steps c.add_bits.new.steps c.add_bits.ensures.steps)
+
+pub returns-in_err-top-clause-steps : goal.returns-in_err-top-clause-steps
+returns-in_err-top-clause-steps g c =
+    let u = c.args.d.now in let v = c.loop-i.d in
+    let xs = c.args.x.now in let ys = c.args.y.now in
+    let ns = c.loop-i.row.nodes in let m = c.loop-i.carry.0 in
+    let i = c.max-width.result in let an = c.bit-2.result.0 in let bn = c.bit-3.result.0 in
+    let place : IsAtPlace u v xs ys ns m i an bn = record {
+      began = c.cached-cached.ensures.sound;
+      stands_x = c.requires.x;
+      stands_y = c.requires.y;
+      ripples = c.loop-i.invariant.ripples;
+      at = omega (arith, c.loop-i.invariant.count, c.loop-i-test.false, c.loop-i.auto.i-end);
+      a_is = c.bit-2.ensures;
+      b_is = c.bit-3.ensures;
+    } in
+    let wide : i ≡ max (length xs) (length ys) = omega (arith, c.max-width.ensures, c.width.ensures, c.width-2.ensures) in
+    let k = max (length xs) (length ys) in
+    let before = steps_all (place_steps u.store xs ys) c.loop-i.i k u.store v.store c.args.steps.now c.loop-i.steps (omega (arith, wide, c.loop-i-test.false, c.loop-i.auto.i-end)) c.loop-i.invariant.steps in
+    steps_then (total (place_steps u.store xs ys) k) (adding u.store (digits_of u.store xs) (digits_of u.store ys) k) u.store v.store c.odd.new.d.store c.args.steps.now c.loop-i.steps c.odd.new.steps before
+    (top_steps u v xs ys ns m i an bn place k c.odd.new.d c.loop-i.steps c.odd.new.steps wide c.odd.ensures.steps)
+
+pub returns-clause-steps : goal.returns-clause-steps
+returns-clause-steps g c =
+    let u = c.args.d.now in let v = c.loop-i.d in
+    let xs = c.args.x.now in let ys = c.args.y.now in
+    let ns = c.loop-i.row.nodes in let m = c.loop-i.carry.0 in
+    let i = c.max-width.result in let an = c.bit-2.result.0 in let bn = c.bit-3.result.0 in
+    let place : IsAtPlace u v xs ys ns m i an bn = record {
+      began = c.cached-cached.ensures.sound;
+      stands_x = c.requires.x;
+      stands_y = c.requires.y;
+      ripples = c.loop-i.invariant.ripples;
+      at = omega (arith, c.loop-i.invariant.count, c.loop-i-test.false, c.loop-i.auto.i-end);
+      a_is = c.bit-2.ensures;
+      b_is = c.bit-3.ensures;
+    } in
+    let wide : i ≡ max (length xs) (length ys) = omega (arith, c.max-width.ensures, c.width.ensures, c.width-2.ensures) in
+    let k = max (length xs) (length ys) in
+    let before = steps_all (place_steps u.store xs ys) c.loop-i.i k u.store v.store c.args.steps.now c.loop-i.steps (omega (arith, wide, c.loop-i-test.false, c.loop-i.auto.i-end)) c.loop-i.invariant.steps in
+    steps_then (total (place_steps u.store xs ys) k) (adding u.store (digits_of u.store xs) (digits_of u.store ys) k) u.store v.store c.odd.new.d.store c.args.steps.now c.loop-i.steps c.odd.new.steps before
+    (top_steps u v xs ys ns m i an bn place k c.odd.new.d c.loop-i.steps c.odd.new.steps wide c.odd.ensures.steps)
