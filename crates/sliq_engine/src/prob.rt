@@ -42,6 +42,7 @@ fn check_weight<A: Weigh>(alloc: Global, qubits: u8, state: &A) -> Result<(), Ca
     ensures light { OnOk result (¬ IsHeavy qubits (vector (A.standing state.now)).entries) }
     ensures stop { IfErr result (MayStopBy (StopsWhere (IsHeavy qubits (vector (A.standing state.now)).entries) WeightTooWide)) }
 {
-    state.weigh(alloc, &Partial::free(qubits))?;
+    let all = Partial::free(qubits);
+    state.weigh(alloc, &all)?;
     Ok(())
 }
