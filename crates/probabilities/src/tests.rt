@@ -36,29 +36,45 @@ fn turned(alloc: Global, times: u32) -> Option<DenseState>
     if all { Some(state) } else { None }
 }
 
+/// Turns and entangles the first two of three qubits.
+fn accepts_first(alloc: Global, state: &mut DenseState) -> [bool; 7]
+    requires { length state.old.input ≡ 3 }
+    ensures { state.new.input ≡ state.old.input }
+{
+    [
+        accepts(alloc, state, &Gate::new(alloc, Kind::H, &[0])),
+        accepts(alloc, state, &Gate::new(alloc, Kind::T, &[0])),
+        accepts(alloc, state, &Gate::new(alloc, Kind::H, &[0])),
+        accepts(alloc, state, &Gate::new(alloc, Kind::H, &[1])),
+        accepts(alloc, state, &Gate::new(alloc, Kind::T, &[1])),
+        accepts(alloc, state, &Gate::new(alloc, Kind::Cx, &[0, 1])),
+        accepts(alloc, state, &Gate::new(alloc, Kind::H, &[1])),
+    ]
+}
+
+/// Turns the third one and entangles it with the others.
+fn accepts_last(alloc: Global, state: &mut DenseState) -> [bool; 6]
+    requires { length state.old.input ≡ 3 }
+    ensures { state.new.input ≡ state.old.input }
+{
+    [
+        accepts(alloc, state, &Gate::new(alloc, Kind::H, &[2])),
+        accepts(alloc, state, &Gate::new(alloc, Kind::S, &[2])),
+        accepts(alloc, state, &Gate::new(alloc, Kind::Ccx, &[0, 1, 2])),
+        accepts(alloc, state, &Gate::new(alloc, Kind::H, &[2])),
+        accepts(alloc, state, &Gate::new(alloc, Kind::T, &[2])),
+        accepts(alloc, state, &Gate::new(alloc, Kind::H, &[2])),
+    ]
+}
+
 /// A state of three qubits whose eight entries are all nonzero.
 fn spread(alloc: Global) -> Option<DenseState>
     ensures { IfSome result (λ s. length s.input ≡ 3) }
 {
     let mut state = DenseState::start(alloc, &Bits::zeros(3), &Rules::usual()).ok()?;
-    let front = [
-        accepts(alloc, &mut state, &Gate::new(alloc, Kind::H, &[0])),
-        accepts(alloc, &mut state, &Gate::new(alloc, Kind::T, &[0])),
-        accepts(alloc, &mut state, &Gate::new(alloc, Kind::H, &[0])),
-        accepts(alloc, &mut state, &Gate::new(alloc, Kind::H, &[1])),
-        accepts(alloc, &mut state, &Gate::new(alloc, Kind::T, &[1])),
-        accepts(alloc, &mut state, &Gate::new(alloc, Kind::Cx, &[0, 1])),
-        accepts(alloc, &mut state, &Gate::new(alloc, Kind::H, &[1])),
-    ];
-    let back = [
-        accepts(alloc, &mut state, &Gate::new(alloc, Kind::H, &[2])),
-        accepts(alloc, &mut state, &Gate::new(alloc, Kind::S, &[2])),
-        accepts(alloc, &mut state, &Gate::new(alloc, Kind::Ccx, &[0, 1, 2])),
-        accepts(alloc, &mut state, &Gate::new(alloc, Kind::H, &[2])),
-        accepts(alloc, &mut state, &Gate::new(alloc, Kind::T, &[2])),
-        accepts(alloc, &mut state, &Gate::new(alloc, Kind::H, &[2])),
-    ];
-    if front.contains(&false) || back.contains(&false) {
+    let first = accepts_first(alloc, &mut state);
+    let last = accepts_last(alloc, &mut state);
+    if first.contains(&false) || last.contains(&false) {
         None
     } else {
         Some(state)

@@ -1,7 +1,7 @@
 use Rattle.std.proofs.Common.{◌≡◌, ◌+◌, ◌<◌, ◌++◌, List, Bool, true, false, Option, length, get_or, take, drop, sym, ◌∙◌, ap, subst, arith}
 use Rattle.std.proofs.lemmas.List.{length-set}
 use mir.Val.{bool_byte}
-use Rattle.probabilities.specs.Outcomes.{measured_count, fixed_to}
+use Rattle.probabilities.specs.Outcomes.{fixed_to}
 use Rattle.probabilities.proofs.OutcomeLemmas.{measured_more, measured_front, fixed_more}
 use Rattle.probabilities.proofs.outcome.fixed_to.Goals as goal
 
