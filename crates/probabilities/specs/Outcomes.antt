@@ -1,11 +1,9 @@
 -- Outcomes of a measurement: a bit for each measured qubit, in the order of the qubits.
-use Rattle.std.specs.Prelude.{ℕ, Bool, true, false, not, ◌||◌, ◌&&◌, List, [], ◌∷◌, map, filter, count_by, Option, Some, None}
+use Rattle.std.specs.Prelude.{ℕ, pos, Bool, true, false, not, ◌||◌, ◌&&◌, List, [], ◌∷◌, map, count_by, Option, Some, None}
 use Rattle.std.specs.List.{list_any}
 use Rattle.std.specs.Ordering.{int_eq}
-use Rattle.std.specs.Prelude.{pos}
 use Rattle.ring_omega.specs.declared.quad.Quad.{Quad}
 use Rattle.ring_omega.specs.declared.weight.Weight.{Weight}
-use Rattle.bit_lists.specs.Lists.{all_lists}
 use Rattle.probabilities.specs.Weighing.{weight_at}
 
 -- a qubit counts as measured where it is, or where none is
@@ -26,12 +24,9 @@ fixed_to _ _ = []
 abbrev pub outcome_weight : List Bool → (List Bool → Quad) → List Bool → Weight
 outcome_weight measured v y = weight_at v (fixed_to measured y)
 
+-- whether both parts are zero
 abbrev pub is_zero_weight : Weight → Bool
 is_zero_weight w = int_eq w.a (pos 0) && int_eq w.b (pos 0)
-
--- the outcomes whose weight isn't zero, in order
-abbrev pub outcomes : List Bool → (List Bool → Quad) → List (List Bool)
-outcomes measured v = filter (λ y. not (is_zero_weight (outcome_weight measured v y))) (all_lists (measured_count measured))
 
 -- the bits of the measured qubits of a state
 abbrev pub measured_bits : List Bool → List Bool → List Bool
