@@ -1,10 +1,10 @@
 -- What stays of nodes once others are added.
-use Rattle.std.proofs.Common.{◌≡◌, ℕ, ◌+◌, ◌<◌, ◌≤◌, Bool, true, List, length, Some, inl, inr, refl, sym, ◌∙◌, ap, arith}
+use Rattle.std.proofs.Common.{◌≡◌, ℕ, ◌+◌, ◌<◌, ◌≤◌, true, List, length, Some, inl, inr, refl, sym, ◌∙◌, ap, arith}
 use mathlib.Core.Path.{fun_ext}
 use Rattle.bit_lists.specs.Orders.{has, after}
 use Rattle.diagram_model.proofs.Canonical.{some_same}
-use Rattle.diagram_model.proofs.Extend.{diagram_put, live-keeps, value-extends, follow_keeps}
-use Rattle.diagram_model.specs.Nodes.{IsProper, follow, IsLiveIn}
+use Rattle.diagram_model.proofs.Extend.{diagram_put, live-keeps, value-extends}
+use Rattle.diagram_model.specs.Nodes.{IsProper, IsLiveIn}
 use Rattle.diagram_model.specs.Stores.{Diagram, IsLive, IsAbove, IsSound, depth_of, depth, Extends, function_of, KeepsFunctions, PutsNode, IsNew, held}
 use Rattle.diagram_model.specs.declared.parts.Parts.{Parts}
 

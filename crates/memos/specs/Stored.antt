@@ -1,5 +1,5 @@
 -- How a memo keeps its results.
-use Rattle.std.specs.Prelude.{◌≡◌, ℕ, ◌+◌, ◌<◌, ◌≤◌, ◌/◌, ◌^◌, length, List, All}
+use Rattle.std.specs.Prelude.{◌+◌, ◌<◌, ◌≤◌, ◌/◌, ◌^◌, length, All}
 use Rattle.memos.specs.declared.memo.Places.TheInside.{Inside}
 use Rattle.memos.specs.declared.memo.Place.{Place}
 use Rattle.memos.specs.MemoPlaces.{MemoValue, slots_of, home}

@@ -1,5 +1,5 @@
 -- A node that is found, or added where there is none.
-use Rattle.std.proofs.Common.{◌≡◌, ℕ, ◌+◌, ◌<◌, ◌≤◌, true, length, List, ◌∷◌, Option, Some, None, get_or, set, refl, sym, ◌∙◌, ap, arith}
+use Rattle.std.proofs.Common.{◌≡◌, ℕ, ◌+◌, ◌<◌, ◌≤◌, true, length, ◌∷◌, Option, Some, None, get_or, set, arith}
 use Rattle.slab.specs.Slab.{Slab, get, Updates}
 use Rattle.bit_lists.specs.Orders.{has}
 use Rattle.diagram_model.specs.declared.parts.Parts.{Parts}

@@ -1,12 +1,11 @@
 -- Nodes that are taken away or given other parts, and counts of nodes.
-use Rattle.std.proofs.Common.{◌≡◌, ◌≢◌, ◌⊎◌, ℕ, zero, suc, ◌+◌, ◌<◌, ◌≤◌, Bool, true, false, cond, eqb, List, [], ◌∷◌, length, Option, Some, None, get_or, set, is_some, count_by, inl, inr, refl, sym, ◌∙◌, ap, arith, eq-eqb}
-use Rattle.std.proofs.lemmas.Bool.{cases_eq, cond-true, cond-false, eqb-true, ne_eqb}
+use Rattle.std.proofs.Common.{◌≡◌, ◌≢◌, ℕ, zero, suc, ◌+◌, ◌<◌, ◌≤◌, Bool, false, cond, eqb, List, [], ◌∷◌, Option, Some, None, is_some, count_by, inl, inr, refl, sym, ◌∙◌, ap, arith, eq-eqb}
+use Rattle.std.proofs.lemmas.Bool.{cases_eq, cond-true, cond-false, ne_eqb}
 use Rattle.std.proofs.lemmas.List.Sums.{sum_by-cons}
-use Rattle.bit_lists.specs.Orders.{has}
 use Rattle.diagram_model.specs.declared.parts.Parts.{Parts}
 use Rattle.diagram_model.specs.Nodes.{parts_of}
-use Rattle.diagram_model.specs.Stores.{Diagram, PutsNode, held}
-use Rattle.node_store.specs.Slots.{IsSlotted, Takes, Rewrites, is_of, nodes_of}
+use Rattle.diagram_model.specs.Stores.{Diagram, PutsNode}
+use Rattle.node_store.specs.Slots.{IsSlotted, Takes, is_of}
 
 abbrev pub one : (Option Parts → Bool) → Option Parts → ℕ
 one f o = cond (f o) 1 0

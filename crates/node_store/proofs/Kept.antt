@@ -13,10 +13,10 @@ use Rattle.diagram_model.proofs.Values.{below-order}
 use Rattle.diagram_model.proofs.Extend.{here}
 use Rattle.tables.specs.NodeTable.{TableValue, found, Puts, SameFound}
 use Rattle.node_store.specs.declared.slots.Slots.TheInside.{Inside}
-use Rattle.node_store.specs.Slots.{IsSlotted, Takes, Rewrites, parts, spare_of, is_of, nodes_of}
+use Rattle.node_store.specs.Slots.{IsSlotted, Takes, Rewrites, parts, spare_of, is_of}
 use Rattle.node_store.specs.Stored.{view_of, spare_in, table_at, AreIndexed, AreBelow, AreTied, IsStored}
-use Rattle.node_store.proofs.Tables.{indexed_put, indexed_take, counted_set, slab_puts, slab_takes, slab_rewrites, get_past_two, indexed_same, table_at-same, table_at-other}
-use Rattle.node_store.proofs.Freed.{count_same, held_put, nodes_put, nodes_other, slotted_take, taken_put, left_was, nodes_le, count_cons, one_held}
+use Rattle.node_store.proofs.Tables.{within_list, indexed_put, indexed_take, counted_set, slab_puts, slab_takes, slab_rewrites, get_past_two, indexed_same, table_at-same, table_at-other}
+use Rattle.node_store.proofs.Freed.{held_put, nodes_put, nodes_other, slotted_take, taken_put, left_was, count_cons, one_held}
 use Rattle.std.proofs.Math.ListN.{get_or-eq_default}
 
 pub within_tables : (a : Inside) (v : ℕ) → IsStored a → has a.order v ≡ true → v < length a.tables.items
@@ -214,18 +214,13 @@ tied_take d e ts r n p k s eo el takes is table len =
       numbered = λ m q im. s.numbered m q (left_was d.slots e.slots n m q takes im);
     }
 
-within_slots : (s : List (Option Parts)) (n : ℕ) (p : Parts) → parts_of s n ≡ Some p → n < length s
-within_slots [] n p is = cc
-within_slots (o ∷ s) zero p is = omega arith
-within_slots (o ∷ s) (suc n) p is = let h = within_slots s n p is in omega arith
-
 -- slots without one node
 abbrev pub without : Diagram → ℕ → Diagram
 without d n = record { order = d.order; limit = d.limit; slots = set d.slots n None; made = d.made }
 
 pub without_takes : (d : Diagram) (n : ℕ) (p : Parts) → parts_of d.slots n ≡ Some p → Takes d.slots (without d n).slots n
 without_takes d n p is = record {
-  gone = get_or-set_same d.slots n None None (within_slots d.slots n p is);
+  gone = get_or-set_same d.slots n None None (within_list d.slots n p is);
   others = λ m ne. get_or-set_other d.slots n m None None ne;
 }
 

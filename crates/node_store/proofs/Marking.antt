@@ -1,5 +1,5 @@
 -- What marking the nodes below a node keeps.
-use Rattle.std.proofs.Common.{◌≡◌, ◌⊎◌, ℕ, ◌<◌, ◌+◌, Bool, true, false, cond, eqb, List, [], ◌∷◌, ◌++◌, take, length, replicate, zero, suc, Some, inl, inr, refl, sym, ◌∙◌, ap, arith, eq-eqb, All, set, get_or, get_or-set_same, get_or-set_other}
+use Rattle.std.proofs.Common.{◌≡◌, ◌⊎◌, ℕ, ◌<◌, Bool, true, false, eqb, List, [], ◌∷◌, ◌++◌, length, replicate, zero, suc, Some, inl, inr, refl, sym, ◌∙◌, ap, set, get_or-set_same, get_or-set_other}
 use Rattle.std.proofs.lemmas.Bool.{cases_eq, eqb-true, false≢true, or_cases}
 use Rattle.diagram_model.specs.declared.parts.Parts.{Parts}
 use Rattle.diagram_model.specs.Nodes.{parts_of, child}
@@ -8,8 +8,7 @@ use Rattle.diagram_model.specs.Reach.{is_in, Reaches}
 use Rattle.diagram_model.specs.Reach.Reaches.{root, step}
 use Rattle.diagram_model.proofs.Canonical.{some_same}
 use Rattle.diagram_model.proofs.Reached.{in_append}
-use Rattle.node_store.specs.declared.node.Node.{Node}
-use Rattle.node_store.specs.Marks.{is_marked, numbers}
+use Rattle.node_store.specs.Marks.{is_marked}
 use Rattle.node_store.specs.Marking.{AreUnmarked, AreClosed, KeepsMarks, MarksReached}
 
 -- the marks new are ms with one on n

@@ -1,5 +1,5 @@
 -- The numbers of the nodes of a variable.
-use Rattle.std.proofs.Common.{◌≡◌, ℕ, zero, suc, ◌+◌, ◌<◌, true, false, eqb, List, [], ◌∷◌, length, Some, get_or, inl, inr, refl, sym, ◌∙◌, ap, arith, eq-eqb}
+use Rattle.std.proofs.Common.{◌≡◌, ℕ, zero, suc, ◌<◌, true, eqb, List, [], ◌∷◌, length, Some, get_or, inl, inr, refl, sym, ◌∙◌, ap, arith, eq-eqb}
 use Rattle.std.proofs.lemmas.Bool.{or_cases, or_left, or_right, eqb-true, false≢true}
 use Rattle.bit_lists.specs.Orders.{has}
 use Rattle.diagram_model.specs.declared.parts.Parts.{Parts}

@@ -138,23 +138,21 @@ counted_set s t ts v r within counted others here w =
 pub get_past_two : (l : List (Option Parts)) (k : ℕ) → parts_of (None ∷ None ∷ l) (k + 2) ≡ get_or l k None
 get_past_two l k = let e : k + 2 ≡ suc (suc k) = omega arith in rw e refl
 
-slab_others : (old new : Slab Parts) (key : ℕ) (p : Parts) → Updates old new key (Some p) → (m : ℕ) → m ≢ key + 2 → parts_of (None ∷ None ∷ new.slots) m ≡ parts_of (None ∷ None ∷ old.slots) m
-slab_others old new key p updates zero ne = refl
-slab_others old new key p updates (suc zero) ne = refl
-slab_others old new key p updates (suc (suc m)) ne = updates.others m (λ e. ne (omega arith))
-
-pub slab_puts : (old new : Slab Parts) (key : ℕ) (p : Parts) → get old key ≡ None → Updates old new key (Some p) → PutsNode (None ∷ None ∷ old.slots) (None ∷ None ∷ new.slots) (key + 2) p
-slab_puts old new key p vacant updates = record {
-  free = get_past_two old.slots key ∙ vacant;
-  here = get_past_two new.slots key ∙ updates.changed;
-  others = slab_others old new key p updates;
-}
-
+-- a slab with another value at one key is the same at all others
 slab_rest : (old new : Slab Parts) (key : ℕ) (o : Option Parts) → Updates old new key o → (m : ℕ) → m ≢ key + 2 → parts_of (None ∷ None ∷ new.slots) m ≡ parts_of (None ∷ None ∷ old.slots) m
 slab_rest old new key o updates zero ne = refl
 slab_rest old new key o updates (suc zero) ne = refl
 slab_rest old new key o updates (suc (suc m)) ne = updates.others m (λ e. ne (omega arith))
 
+-- a slab that got a value at a key
+pub slab_puts : (old new : Slab Parts) (key : ℕ) (p : Parts) → get old key ≡ None → Updates old new key (Some p) → PutsNode (None ∷ None ∷ old.slots) (None ∷ None ∷ new.slots) (key + 2) p
+slab_puts old new key p vacant updates = record {
+  free = get_past_two old.slots key ∙ vacant;
+  here = get_past_two new.slots key ∙ updates.changed;
+  others = slab_rest old new key (Some p) updates;
+}
+
+-- a slab that lost the value at a key
 pub slab_takes : (old new : Slab Parts) (key : ℕ) → Updates old new key None → Takes (None ∷ None ∷ old.slots) (None ∷ None ∷ new.slots) (key + 2)
 slab_takes old new key updates = record {
   gone = get_past_two new.slots key ∙ updates.changed;
@@ -166,7 +164,8 @@ set_rest l key o zero ne = refl
 set_rest l key o (suc zero) ne = refl
 set_rest l key o (suc (suc m)) ne = get_or-set_other l key m o None (λ e. ne (omega arith))
 
-within_list : (s : List (Option Parts)) (n : ℕ) (p : Parts) → parts_of s n ≡ Some p → n < length s
+-- a place that has a node is within the list
+pub within_list : (s : List (Option Parts)) (n : ℕ) (p : Parts) → parts_of s n ≡ Some p → n < length s
 within_list [] n p is = cc
 within_list (o ∷ s) zero p is = omega arith
 within_list (o ∷ s) (suc n) p is = let h = within_list s n p is in omega arith

@@ -1,8 +1,7 @@
 -- Where two nodes have different values.
-use Rattle.std.specs.Prelude.{◌≡◌, ◌≢◌, ℕ, Bool, true, false, ◌&&◌, ◌==◌, List, length, Option, Some, None, slice_index_or}
-use Rattle.std.specs.List.{list_any}
+use Rattle.std.specs.Prelude.{◌≡◌, ◌≢◌, ℕ, Bool, true, false, List, length, Option}
 use Rattle.bit_lists.specs.Partials.{agrees}
-use Rattle.diagram_model.specs.Functions.{Assignment, bit}
+use Rattle.diagram_model.specs.Functions.{bit}
 use Rattle.diagram_model.specs.Nodes.{value}
 use Rattle.diagram_model.specs.Stores.{Diagram}
 

@@ -1,7 +1,7 @@
 -- Nodes that are marked, by number.
-use Rattle.std.specs.Prelude.{◌≡◌, ◌⊎◌, ℕ, ◌<◌, Bool, true, false, List, Some, map, length, slice_index_or}
+use Rattle.std.specs.Prelude.{◌≡◌, ℕ, Bool, true, false, List, Some, map, slice_index_or}
 use Rattle.diagram_model.specs.declared.parts.Parts.{Parts}
-use Rattle.diagram_model.specs.Nodes.{parts_of, child}
+use Rattle.diagram_model.specs.Nodes.{parts_of}
 use Rattle.diagram_model.specs.Stores.{Diagram, HasParts}
 use Rattle.diagram_model.specs.Reach.{Reaches}
 use Rattle.node_store.specs.declared.node.Node.{Node}

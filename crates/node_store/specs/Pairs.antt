@@ -1,9 +1,8 @@
 -- Where two nodes differ, for assignments, and the pairs that a walk has met. Only private functions
 -- use these words.
-use Rattle.std.specs.Prelude.{◌≡◌, ◌≢◌, ℕ, Bool, true, false, ◌&&◌, ◌==◌, List, length, Option, Some, None, slice_index_or}
+use Rattle.std.specs.Prelude.{◌≡◌, ◌≢◌, ℕ, Bool, true, ◌&&◌, ◌==◌, List, Option, Some, None, slice_index_or}
 use Rattle.std.specs.List.{list_any}
-use Rattle.bit_lists.specs.Partials.{agrees}
-use Rattle.diagram_model.specs.Functions.{Assignment, bit}
+use Rattle.diagram_model.specs.Functions.{Assignment}
 use Rattle.diagram_model.specs.Nodes.{value}
 use Rattle.diagram_model.specs.Stores.{Diagram}
 

@@ -3,7 +3,7 @@ use Rattle.std.proofs.Common.{◌≡◌, ◌≢◌, ℕ, zero, suc, ◌+◌, ◌
 use Rattle.std.proofs.lemmas.Bool.{cases_Bool, cond-true, cond-false, both_ways}
 use Rattle.std.proofs.lemmas.List.{take_more, append-nil, length-append, length-map, length-take-le}
 use Rattle.std.specs.Map.{lookup}
-use Rattle.tables.specs.Probing.{Slot, free, gone, holds, entry_of, entries_of, at, AreApart}
+use Rattle.tables.specs.Probing.{Slot, free, gone, holds, entry_of, entries_of, AreApart}
 use Rattle.tables.proofs.Probing.{held, length_entry, held_within}
 use Rattle.tables.proofs.Searching.{IsTestOf, find_absent, at_slots, at_take}
 

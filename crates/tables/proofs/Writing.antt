@@ -1,5 +1,5 @@
 -- Places that are written, for any key and any kind of place.
-use Rattle.std.proofs.Common.{◌≡◌, ◌≢◌, ℕ, ◌+◌, ◌<◌, ◌≤◌, Bool, true, false, List, map, length, set, Some, None, inl, inr, refl, sym, ◌∙◌, ap, arith}
+use Rattle.std.proofs.Common.{◌≡◌, ℕ, ◌+◌, ◌<◌, ◌≤◌, Bool, false, List, map, length, set, Some, None, inl, inr, sym, ◌∙◌, ap, arith}
 use Rattle.std.proofs.lemmas.List.{get_or-set_same, length-set, length-map, map-set}
 use Rattle.std.specs.Map.{lookup}
 use Rattle.tables.specs.Probing.{Slot, free, gone, holds, entries_of, used, used_of, at, IsAbsent, IsProbed, IsFirstFree}

@@ -1,4 +1,4 @@
-use Rattle.std.proofs.Common.{◌∙◌, inl, inr, refl, sym, get_or, arith}
+use Rattle.std.proofs.Common.{◌∙◌, inl, inr, refl, sym, get_or}
 use Rattle.memos.specs.declared.memo.Place.{Place}
 use Rattle.memos.specs.MemoPlaces.{slot_of}
 use Rattle.tables.proofs.Searching.{passed_more}

@@ -1,13 +1,12 @@
-use Rattle.std.proofs.Common.{◌≡◌, ◌<◌, ◌≤◌, ℕ, refl, sym, length, arith, set, Some, None, ◌∙◌}
+use Rattle.std.proofs.Common.{◌≡◌, ◌<◌, ◌≤◌, refl, sym, length, arith, None}
 use Rattle.std.proofs.lemmas.List.{length-set}
 use Rattle.std.proofs.lemmas.List.Elements.{All-set}
-use Rattle.tables.specs.Probing.{at, holds, free, IsAbsent, entries_of}
+use Rattle.tables.specs.Probing.{entries_of}
 use Rattle.memos.specs.Memo.{Triple, found}
 use Rattle.memos.specs.MemoPlaces.{slot_of, slots_of, home}
 use Rattle.tables.specs.Searching.{LocateMeans}
 use Rattle.memos.specs.declared.memo.Place.{Place}
 use Rattle.tables.specs.declared.probe.Probe.TheVariants.{Found, Vacant, Full}
-use Rattle.tables.proofs.Probing.{absent_vacant, held_used}
 use Rattle.tables.proofs.Searching.{absent_new, no_place}
 use Rattle.tables.proofs.Writing.{add_probed, add_used, add_count}
 use Rattle.memos.proofs.Memos.{is_key, key_test, blank, blank_free, slot_here, add_puts}

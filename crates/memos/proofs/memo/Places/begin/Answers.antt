@@ -1,9 +1,7 @@
-use Rattle.std.proofs.Common.{◌≡◌, ◌<◌, ◌≤◌, ◌^◌, ℕ, refl, sym, [], length, arith, ap, ◌+◌, ◌-◌, ◌/◌}
-use Rattle.std.specs.Prelude.{All}
-use Rattle.tables.specs.Probing.{IsProbed, at, free, entries_of, used_of}
+use Rattle.std.proofs.Common.{◌≡◌, ℕ, refl, [], length, arith, ◌+◌}
+use Rattle.tables.specs.Probing.{at, free}
 use Rattle.memos.specs.Memo.{Triple}
 use Rattle.memos.specs.MemoPlaces.{slots_of, home}
-use Rattle.memos.specs.declared.memo.Place.{Place}
 use Rattle.tables.proofs.Probing.{probed_free, used_free, entries_free}
 use Rattle.memos.proofs.Memos.{all_past}
 use Rattle.memos.proofs.memo.Places.begin.Goals as goal

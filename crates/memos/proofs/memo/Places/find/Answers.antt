@@ -1,5 +1,4 @@
-use Rattle.std.proofs.Common.{◌≡◌, sym, length, arith}
-use Rattle.tables.specs.Probing.{at, holds, free, IsAbsent}
+use Rattle.std.proofs.Common.{sym, length}
 use Rattle.memos.specs.Memo.{Triple}
 use Rattle.memos.specs.MemoPlaces.{slot_of, slots_of, home}
 use Rattle.tables.specs.Searching.{LocateMeans}

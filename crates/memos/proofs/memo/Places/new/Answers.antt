@@ -1,5 +1,5 @@
-use Rattle.std.proofs.Common.{◌≡◌, ◌<◌, ◌^◌, ℕ, refl, sym, [], length, arith, List, ap, ◌+◌}
-use Rattle.tables.specs.Probing.{IsProbed, at, free, holds, entries_of, used_of}
+use Rattle.std.proofs.Common.{◌≡◌, ℕ, refl, [], length, arith}
+use Rattle.tables.specs.Probing.{at, free}
 use Rattle.memos.specs.Memo.{Triple}
 use Rattle.memos.specs.MemoPlaces.{slots_of, home}
 use Rattle.tables.proofs.Probing.{probed_free, used_free, entries_free}

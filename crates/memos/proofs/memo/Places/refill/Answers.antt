@@ -1,7 +1,7 @@
-use Rattle.std.proofs.Common.{◌≡◌, ◌<◌, ◌≤◌, ℕ, None, refl, sym, [], length, arith, ap, ◌+◌, ◌∙◌, take, get_or}
-use Rattle.tables.specs.Probing.{entries_of, holds, free}
-use Rattle.memos.specs.Memo.{Triple, found}
-use Rattle.memos.specs.MemoPlaces.{slots_of, slot_of}
+use Rattle.std.proofs.Common.{◌≡◌, None, refl, arith, ap, ◌+◌, ◌∙◌, get_or}
+use Rattle.tables.specs.Probing.{entries_of}
+use Rattle.memos.specs.Memo.{found}
+use Rattle.memos.specs.MemoPlaces.{slot_of}
 use Rattle.memos.specs.declared.memo.Place.{Place}
 use Rattle.tables.proofs.Probing.{held}
 use Rattle.tables.proofs.Copying.{first_new, count_take}

@@ -1,7 +1,7 @@
-use Rattle.std.proofs.Common.{◌≡◌, ◌<◌, ◌≤◌, ◌^◌, ℕ, refl, sym, [], length, arith, List, ap, ◌+◌, replicate, ◌∙◌}
+use Rattle.std.proofs.Common.{◌≡◌, ◌≤◌, ℕ, refl, length, arith, ap, replicate, ◌∙◌}
 use Rattle.std.proofs.lemmas.List.{length-replicate}
 use Rattle.std.proofs.lemmas.List.Elements.{All-replicate}
-use Rattle.tables.specs.Probing.{IsProbed, at, free, holds, entries_of, used_of}
+use Rattle.tables.specs.Probing.{at, free}
 use Rattle.memos.specs.MemoPlaces.{slot_of, slots_of, home}
 use Rattle.memos.specs.declared.memo.Place.{Place}
 use Rattle.tables.proofs.Probing.{probed_free, used_free, entries_free}

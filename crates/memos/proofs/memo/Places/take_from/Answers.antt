@@ -1,4 +1,4 @@
-use Rattle.std.proofs.Common.{◌≡◌, ◌<◌, ◌≤◌, ◌+◌, length, arith, ap, sym}
+use Rattle.std.proofs.Common.{◌≡◌, ◌+◌, length, arith}
 use Rattle.tables.specs.Probing.{entries_of}
 use Rattle.memos.specs.MemoPlaces.{slots_of}
 use Rattle.tables.proofs.Probing.{held_used}

@@ -1,4 +1,4 @@
-use Rattle.std.proofs.Common.{◌+◌, arith, length, refl, sym, true, ◌<◌, ◌≡◌, ◌≤◌}
+use Rattle.std.proofs.Common.{◌+◌, arith, length, refl, sym, ◌<◌, ◌≤◌}
 use Rattle.diagram_model.specs.Stores.{IsNew, held}
 use Rattle.node_store.specs.Slots.{parts, spare_of}
 use Rattle.node_store.specs.Stored.{view_of}

@@ -1,4 +1,4 @@
-use Rattle.std.proofs.Common.{arith, length, sym, true, ◌<◌, ◌≡◌}
+use Rattle.std.proofs.Common.{arith, length, sym, ◌<◌, ◌≡◌}
 use Rattle.node_store.proofs.Kept.{has_var, within_tables, found_some, found_none, of_some, of_none_is}
 use Rattle.std.proofs.Common.{Some}
 use Rattle.diagram_model.specs.Nodes.{parts_of}

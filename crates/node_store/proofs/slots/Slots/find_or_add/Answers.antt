@@ -1,5 +1,5 @@
-use Rattle.std.proofs.Common.{◌≡◌, ◌<◌, ◌≤◌, ◌+◌, length, arith, refl, sym, ◌∙◌, inl, inr}
-use Rattle.diagram_model.specs.Stores.{IsNew, held}
+use Rattle.std.proofs.Common.{◌<◌, ◌≤◌, ◌+◌, length, arith, refl, sym, ◌∙◌, inl, inr}
+use Rattle.diagram_model.specs.Stores.{held}
 use Rattle.node_store.specs.Slots.{parts, spare_of}
 use Rattle.node_store.specs.Stored.{view_of}
 use Rattle.node_store.proofs.Finding.{found_old, found_new, put_stored, puts_new}

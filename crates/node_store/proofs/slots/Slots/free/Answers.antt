@@ -1,4 +1,4 @@
-use Rattle.std.proofs.Common.{◌<◌, ◌-◌, length, sym, arith, refl}
+use Rattle.std.proofs.Common.{◌-◌, sym, arith, refl}
 use Rattle.std.proofs.lemmas.List.{length-set}
 use Rattle.node_store.proofs.Kept.{within_tables, held_var, freed, rooms_le, spare_set}
 use Rattle.node_store.proofs.slots.Slots.free.Goals as goal

@@ -1,4 +1,4 @@
-use Rattle.std.proofs.Common.{◌≡◌, ◌≤◌, length, arith, ◌∙◌, ap}
+use Rattle.std.proofs.Common.{◌≤◌, length, arith, ap}
 use Rattle.node_store.specs.Stored.{view_of}
 use Rattle.node_store.proofs.Freed.{nodes_le}
 use Rattle.node_store.proofs.Kept.{has_var, table_is}

@@ -1,4 +1,4 @@
-use Rattle.std.proofs.Common.{◌≡◌, ◌<◌, length, arith, refl, sym, ap, set}
+use Rattle.std.proofs.Common.{◌<◌, length, arith, refl, sym, ap, set}
 use Rattle.std.proofs.lemmas.List.{length-set}
 use Rattle.tables.specs.NodeTable.{SameFound, found_in}
 use Rattle.node_store.proofs.Kept.{has_var, within_tables, stored_same, rooms_le, spare_set}

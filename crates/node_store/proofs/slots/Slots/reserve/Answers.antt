@@ -1,4 +1,4 @@
-use Rattle.std.proofs.Common.{ap, arith, length, refl, sym, true, ◌<◌, ◌≡◌, inl}
+use Rattle.std.proofs.Common.{ap, arith, length, refl, sym, ◌<◌, inl}
 use Rattle.node_store.proofs.Kept.{grown_rooms, on_err, has_var, within_tables, stored_same, spares_le, room_made, same_count}
 use Rattle.node_store.proofs.slots.Slots.reserve.Goals as goal
 

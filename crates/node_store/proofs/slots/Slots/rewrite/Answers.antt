@@ -1,7 +1,6 @@
-use Rattle.std.proofs.Common.{◌≡◌, ◌<◌, ◌≤◌, ◌+◌, ◌-◌, Some, None, length, true, sym, ◌∙◌, ap, arith, refl, set}
+use Rattle.std.proofs.Common.{◌≡◌, ◌<◌, ◌≤◌, ◌+◌, ◌-◌, Some, length, sym, ◌∙◌, ap, arith, refl, set}
 use Rattle.std.proofs.lemmas.List.{length-set}
 use Rattle.slab.specs.Slab.{get, with_value}
-use Rattle.bit_lists.specs.Orders.{has}
 use Rattle.diagram_model.specs.Stores.{IsNew}
 use Rattle.node_store.specs.Slots.{parts}
 use Rattle.node_store.specs.Stored.{view_of}

@@ -1,5 +1,5 @@
-use Rattle.std.proofs.Common.{◌≡◌, length, arith, refl, ◌∙◌, ap, sym}
-use Rattle.node_store.proofs.Copies.{AreCopied, slots_same, copy_stored}
+use Rattle.std.proofs.Common.{◌≡◌, length, arith, refl, ◌∙◌, ap}
+use Rattle.node_store.proofs.Copies.{slots_same, copy_stored}
 use Rattle.node_store.proofs.slots.Slots.try_copy.Goals as goal
 
 pub invariant_of-result : goal.invariant_of-result

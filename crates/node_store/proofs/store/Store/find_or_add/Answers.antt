@@ -1,4 +1,4 @@
-use Rattle.std.proofs.Common.{length, arith, ◌≡◌, ◌+◌, ◌<◌, ◌∙◌, ap, true}
+use Rattle.std.proofs.Common.{length, arith, ◌≡◌, ◌<◌, ◌∙◌, ap, true}
 use Rattle.bit_lists.specs.Orders.{has}
 use Rattle.diagram_model.proofs.Values.{below-order}
 use Rattle.diagram_model.specs.Nodes.{IsProper}

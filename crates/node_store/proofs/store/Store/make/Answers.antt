@@ -1,6 +1,4 @@
-use Rattle.std.proofs.Common.{refl}
-use Rattle.diagram_model.specs.Stores.{IsAbove, requested}
-use Rattle.node_store.proofs.Requests.{extends_before, functions_before, room_before, stop_before}
+use Rattle.node_store.proofs.Requests.{extends_before, functions_before, stop_before}
 use Rattle.node_store.proofs.store.Store.make.Goals as goal
 
 pub returns-clause-functions : goal.returns-clause-functions

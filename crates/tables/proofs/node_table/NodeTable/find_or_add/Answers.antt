@@ -1,14 +1,12 @@
-use Rattle.std.proofs.Common.{◌≡◌, ◌<◌, refl, sym, length, arith, None}
+use Rattle.std.proofs.Common.{◌<◌, refl, sym, length, arith}
 use Rattle.std.proofs.lemmas.List.{length-set}
-use Rattle.tables.specs.Probing.{entries_of}
-use Rattle.tables.specs.NodeTable.{found_in}
 use Rattle.tables.specs.NodePlaces.{slot_of, slots_of, home}
 use Rattle.tables.specs.Searching.{LocateMeans}
 use Rattle.tables.specs.declared.node_table.Place.{Place}
 use Rattle.tables.specs.declared.node_table.Place.TheVariants.{Free, Held}
 use Rattle.tables.specs.declared.probe.Probe.TheVariants.{Found, Vacant, Full}
 use Rattle.tables.proofs.Probing.{held_used, absent_vacant}
-use Rattle.tables.proofs.Searching.{find_found, find_absent, absent_new, no_place}
+use Rattle.tables.proofs.Searching.{find_found, find_absent, no_place}
 use Rattle.tables.proofs.Writing.{add_probed, add_used, add_count}
 use Rattle.tables.proofs.Nodes.{is_key, key_test, add_puts}
 use Rattle.tables.proofs.node_table.NodeTable.find_or_add.Goals as goal

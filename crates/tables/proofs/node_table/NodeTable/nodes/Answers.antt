@@ -1,4 +1,4 @@
-use Rattle.std.proofs.Common.{◌≡◌, ◌++◌, [], ◌∷◌, map, refl, ◌∙◌, ap, sym}
+use Rattle.std.proofs.Common.{◌++◌, [], ◌∷◌, map, refl, ◌∙◌, ap, sym}
 use Rattle.std.proofs.lemmas.List.{append-nil, take_all}
 use Rattle.tables.specs.NodePlaces.{slot_of, slots_of}
 use Rattle.tables.specs.Probing.{entries_of}
