@@ -32,7 +32,7 @@ pub fn state_line(x: &Bits, q: Quad, k: u32) -> Line
 
 impl Line {
     // At most 220 bytes.
-    fn add_entry(&mut self, q: Quad, k: u32)
+    pub(crate) fn add_entry(&mut self, q: Quad, k: u32)
         requires { length self.old ≤ 512 }
         ensures text { self.new ≡ self.old ++ entry_text q k }
         ensures short { length self.new ≤ length self.old + 220 }

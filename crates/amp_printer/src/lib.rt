@@ -7,8 +7,12 @@ mod line;
 mod outcome;
 #[cfg(test)]
 mod tests;
+mod verdict;
+#[cfg(test)]
+mod verdict_tests;
 
 pub use counted::{Counted, count_line};
 pub use entry::{entry_text, state_line};
 pub use line::Line;
 pub use outcome::weight_line;
+pub use verdict::{Verdict, verdict_text};

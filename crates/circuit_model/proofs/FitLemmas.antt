@@ -1,49 +1,16 @@
--- Gates that all fit a width, and one more; and that a vector fits or doesn't.
-use Rattle.std.proofs.Common.{◌≡◌, ◌⊎◌, inl, inr, ℕ, zero, suc, ◌-◌, ◌^◌, refl, ap, subst, Bool, true, false, List, [], ◌∷◌, ◌++◌, length, arith, ℤ, pos, neg_ℤ}
+-- The gates of a list all fit a width, or don't.
+use Rattle.std.proofs.Common.{◌≡◌, ◌⊎◌, inl, inr, ℕ, zero, suc, ◌-◌, ◌^◌, refl, ap, Bool, true, false, List, [], ◌∷◌, ◌++◌, length, arith, ℤ, pos, neg_ℤ}
 use Rattle.std.specs.Int.Signed.{clash_ℤ}
 use Rattle.std.proofs.lemmas.Int.{by_lt_z}
-use Rattle.std.proofs.lemmas.List.{length-append}
 use Rattle.ring_omega.specs.declared.quad.Quad.{Quad}
 use Rattle.gate_set.specs.declared.gate.Gate.{Gate}
-use Rattle.circuit_model.specs.Working.{raw, work, IntFits, QuadFits, FitsWidth, AllFit}
-
--- ---- two splits of one list
--- they are the same, or one front goes past the other's element
-abbrev pub SplitOrder : {X : Type 0} → List X → List X → X → X → Type 0
-SplitOrder {X} f g x y = ((f ≡ g) × (x ≡ y)) ⊎ (((m : List X) × (g ≡ f ++ x ∷ m)) ⊎ ((m : List X) × (f ≡ g ++ y ∷ m)))
-
-pub split_order : {X : Type 0} (f g : List X) (x y : X) (r s : List X) → f ++ x ∷ r ≡ g ++ y ∷ s → SplitOrder f g x y
-split_order [] [] x y r s e = let same : x ≡ y = cc in inl (refl, same)
-split_order [] (z ∷ g) x y r s e = let same : z ≡ x = cc in inr (inl (g, ap (λ w. w ∷ g) same))
-split_order (z ∷ f) [] x y r s e = let same : z ≡ y = cc in inr (inr (f, ap (λ w. w ∷ f) same))
-split_order {X} (z ∷ f) (w ∷ g) x y r s e =
-    let first : z ≡ w = cc in
-    let rest : f ++ x ∷ r ≡ g ++ y ∷ s = cc in
-    by first (split_order f g x y r s rest)
-  where
-    by : z ≡ w → SplitOrder f g x y → SplitOrder (z ∷ f) (w ∷ g) x y
-    by first (inl same) = let fronts = same.0 in let l : z ∷ f ≡ w ∷ g = cc in inl (l, same.1)
-    by first (inr (inl more)) = let fronts = more.1 in let l : w ∷ g ≡ z ∷ (f ++ x ∷ more.0) = cc in inr (inl (more.0, l))
-    by first (inr (inr more)) = let fronts = more.1 in let l : z ∷ f ≡ w ∷ (g ++ y ∷ more.0) = cc in inr (inr (more.0, l))
+use Rattle.circuit_model.specs.Working.{IntFits, QuadFits, FitsWidth, RawFits, AllFit, raw, work}
+use Rattle.circuit_model.proofs.PrefixLemmas.{AtEach-more}
 
 -- ---- one gate more
 pub AllFit-more : (w : ℕ) (input : List Bool) (front : List Gate) (g : Gate) → AllFit w input front
     → FitsWidth (length input) w (raw g (work front input)).entries → AllFit w input (front ++ g ∷ [])
-AllFit-more w input front g before here f r h e = by (split_order front f g h [] r e)
-  where
-    too_long : (m : List Gate) → f ≡ front ++ g ∷ m → ⊥
-    too_long m longer =
-        let whole = ap length e in
-        let part = ap length longer in
-        absurd (omega (arith, length-append front (g ∷ []), length-append f (h ∷ r), length-append front (g ∷ m)))
-
-    by : SplitOrder front f g h → FitsWidth (length input) w (raw h (work f input)).entries
-    by (inl same) =
-        let P : List Gate → Type 0 = λ l. FitsWidth (length input) w (raw g (work l input)).entries in
-        let Q : Gate → Type 0 = λ k. FitsWidth (length input) w (raw k (work f input)).entries in
-        subst Q same.1 (subst P same.0 here)
-    by (inr (inl more)) = absurd (too_long more.0 more.1)
-    by (inr (inr more)) = before f more.0 h more.1
+AllFit-more w input front g before here = AtEach-more (λ done h. RawFits w done input h) front g before here
 
 -- ---- a width is fit or not
 int_fits_or_not : (w : ℕ) (z : ℤ) → IntFits w z ⊎ (¬ IntFits w z)

@@ -1,4 +1,5 @@
 pub mod SumLemmas
 pub mod VectorLemmas
 pub mod WorkingLemmas
+pub mod PrefixLemmas
 pub mod FitLemmas

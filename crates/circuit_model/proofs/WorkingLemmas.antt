@@ -94,7 +94,7 @@ once_halved n v k a e t h x len =
     let both : times_power root_of_two e (times_power root_of_two 2 u) ≡ times_power root_of_two (suc (suc k)) (a x) = ap (times_power root_of_two e) twice ∙ h x len in
     times_power-root_cancel 2 (times_power root_of_two e u) (times_power root_of_two k (a x)) (times_power-times_power root_of_two 2 e u ∙ both)
 
-halved-HasValues : (n : ℕ) (v : List Bool → Quad) (k : ℕ) (a : List Bool → Quad) (e : ℕ) → HasValues n (scaled v k) a e → HasValues n (halved n v k) a e
+pub halved-HasValues : (n : ℕ) (v : List Bool → Quad) (k : ℕ) (a : List Bool → Quad) (e : ℕ) → HasValues n (scaled v k) a e → HasValues n (halved n v k) a e
 unfolding halved
 halved-HasValues n v zero a e h = h
 halved-HasValues n v (suc zero) a e h = h

@@ -1,3 +1,4 @@
+pub mod Prefixes
 pub mod Product
 pub mod Vector
 pub mod Working

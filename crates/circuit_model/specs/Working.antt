@@ -1,7 +1,7 @@
 -- The working vector: a quadruple for each basis state, all of them over one power of √2, with the factors of 2 that all of them
 -- share taken out. The entries are those of the ring of integers with 1/√2 and i; that one exponent serves all of them, and when it
 -- falls, is this project's own.
-use Rattle.std.specs.Prelude.{◌*◌, ◌≤◌, ◌≡◌, ℕ, suc, ◌++◌, ◌∷◌, ◌+◌, ◌-◌, ◌^◌, ℤ, pos, neg_ℤ, ◌≤ℤ◌, ◌<ℤ◌, Bool, ◌&&◌, cond, List, length, fold}
+use Rattle.std.specs.Prelude.{◌*◌, ◌≤◌, ◌≡◌, ℕ, suc, ◌+◌, ◌-◌, ◌^◌, ℤ, pos, neg_ℤ, ◌≤ℤ◌, ◌<ℤ◌, Bool, ◌&&◌, cond, List, length, fold}
 use Rattle.std.specs.List.{list_all}
 use Rattle.ring_omega.specs.declared.quad.Quad.{Quad}
 use Rattle.ring_omega.specs.Ring.{quad, product_of, times_power}
@@ -10,6 +10,7 @@ use Rattle.ring_omega.specs.Lowest.{is_even, half}
 use Rattle.bit_lists.specs.Lists.{all_lists}
 use Rattle.gate_set.specs.declared.gate.Gate.{Gate}
 use Rattle.gate_set.specs.Matrix.{half_power_of}
+use Rattle.circuit_model.specs.Prefixes.{AtEach, IsFirstFailing}
 use Rattle.circuit_model.specs.Product.{applied, basis_state}
 
 -- a vector over a power of √2: the entry at x stands for `entries x` over √2 to the power `exponent`
@@ -82,17 +83,11 @@ RawFits w gates input g = FitsWidth (length input) w (raw g (work gates input)).
 
 -- it does at each gate of the list
 abbrev pub AllFit : ℕ → List Bool → List Gate → Type 0
-AllFit w input gates = (front rest : List Gate) (g : Gate) → gates ≡ front ++ g ∷ rest → RawFits w front input g
+AllFit w input gates = AtEach (λ front g. RawFits w front input g) gates
 
 -- the gate of this number, counted from 1, is the first at which it doesn't
-pub record IsFirstUnfit (w : ℕ) (input : List Bool) (gates : List Gate) (number : ℕ) : Type 0 where
-  pub front : List Gate
-  pub gate : Gate
-  pub rest : List Gate
-  pub split : gates ≡ front ++ gate ∷ rest
-  pub count : number ≡ length front + 1
-  pub before : AllFit w input front
-  pub unfit : ¬ RawFits w front input gate
+abbrev pub IsFirstUnfit : ℕ → List Bool → List Gate → ℕ → Type 0
+IsFirstUnfit w input gates number = IsFirstFailing (λ front g. RawFits w front input g) gates number
 
 -- the vector's entries on n qubits have the values of v over the k-th power of √2
 abbrev pub HasValues : ℕ → Scaled → (List Bool → Quad) → ℕ → Type 0

@@ -7,14 +7,17 @@ use Rattle.sliq_engine.specs.declared.words.Task.TheVariants as task
 use Rattle.sliq_engine.specs.Commands.{CarriesOut}
 use Rattle.sliq_engine.specs.Laws.{IsSure}
 use Rattle.sliq_engine.proofs.SimLemmas.{one_sims, some_sims}
+use Rattle.sliq_engine.proofs.EqLemmas.{one_compares, some_compares}
 use Rattle.sliq_engine.proofs.ProbLemmas.{one_weighs, some_weighs}
 
 -- at most one end, command by command
 pub one_end : (it : Task) (rules : Settings) (texts : List (List ℕ)) → HasOneEnd IsSure (CarriesOut it rules texts)
 one_end task.Sim rules texts = one_sims rules (get_or texts 0 [])
 one_end task.Prob rules texts = one_weighs rules (get_or texts 0 [])
+one_end task.Eq rules texts = one_compares rules (get_or texts 0 []) (get_or texts 1 [])
 
 -- some end, command by command
 pub some_end : (it : Task) (rules : Settings) (texts : List (List ℕ)) → HasSomeEnd IsSure (CarriesOut it rules texts)
 some_end task.Sim rules texts = some_sims rules (get_or texts 0 [])
 some_end task.Prob rules texts = some_weighs rules (get_or texts 0 [])
+some_end task.Eq rules texts = some_compares rules (get_or texts 0 []) (get_or texts 1 [])

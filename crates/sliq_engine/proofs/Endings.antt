@@ -5,7 +5,7 @@ use Rattle.phases.specs.Phases.{Phase, ◌>>=◌, HandsOn}
 use Rattle.sliq_engine.specs.declared.output.SendStop.{SendStop}
 use Rattle.sliq_engine.specs.declared.output.SendStop.TheVariants as sends
 use Rattle.sliq_engine.specs.declared.cause.Cause.{Cause}
-use Rattle.sliq_engine.specs.declared.cause.Cause.TheVariants.{Done, BadWords, ReadFault, TooLong, Refused, Unbuilt, Width, WeightTooWide, WriteFault, OutOfMemory}
+use Rattle.sliq_engine.specs.declared.cause.Cause.TheVariants.{Done, Differs, BadWords, ReadFault, TooLong, Refused, Unbuilt, QubitsDiffer, Width, WeightTooWide, WriteFault, OutOfMemory}
 use Rattle.sliq_engine.specs.Steps.{Output}
 use Rattle.sliq_engine.specs.Ending.{MayEnd, MayStopBy}
 use Rattle.sliq_engine.specs.Private.{cause_of_sending}
@@ -14,6 +14,7 @@ module _ {X : Type 0} (first : Phase X Cause) (next : X → Phase Output Cause) 
   -- the first phase stops
   pub ends_first : (cause : Cause) (out : Option (List ℕ)) → MayStopBy first cause → MayEnd (first >>= next) cause out out
   ends_first Done out h = absurd h
+  ends_first Differs out h = absurd h
   ends_first WriteFault out h = absurd h
   ends_first OutOfMemory out h = inl refl
   ends_first BadWords out h = ((Err BadWords, h, refl), refl)
@@ -21,12 +22,14 @@ module _ {X : Type 0} (first : Phase X Cause) (next : X → Phase Output Cause) 
   ends_first (TooLong file) out h = ((Err (TooLong file), h, refl), refl)
   ends_first (Refused file r) out h = ((Err (Refused file r), h, refl), refl)
   ends_first (Unbuilt file) out h = ((Err (Unbuilt file), h, refl), refl)
+  ends_first (QubitsDiffer m n) out h = ((Err (QubitsDiffer m n), h, refl), refl)
   ends_first (Width step) out h = ((Err (Width step), h, refl), refl)
   ends_first WeightTooWide out h = ((Err WeightTooWide, h, refl), refl)
 
   -- the first phase hands x on, and the run ends as the next one may
   pub ends_after : (x : X) (cause : Cause) (old new : Option (List ℕ)) → first (Ok x) → MayEnd (next x) cause old new → MayEnd (first >>= next) cause old new
   ends_after x Done old new f h = (h.0, (Ok x, f, h.1), h.2)
+  ends_after x Differs old new f h = (h.0, (Ok x, f, h.1), h.2)
   ends_after x WriteFault old new f h = (h.0, (Ok x, f, h.1), h.2)
   ends_after x OutOfMemory old new f (inl e) = inl e
   ends_after x OutOfMemory old new f (inr h) = inr (h.0, (Ok x, f, h.1), h.2)
@@ -35,6 +38,7 @@ module _ {X : Type 0} (first : Phase X Cause) (next : X → Phase Output Cause) 
   ends_after x (TooLong file) old new f h = ((Ok x, f, h.0), h.1)
   ends_after x (Refused file r) old new f h = ((Ok x, f, h.0), h.1)
   ends_after x (Unbuilt file) old new f h = ((Ok x, f, h.0), h.1)
+  ends_after x (QubitsDiffer m n) old new f h = ((Ok x, f, h.0), h.1)
   ends_after x (Width step) old new f h = ((Ok x, f, h.0), h.1)
   ends_after x WeightTooWide old new f h = ((Ok x, f, h.0), h.1)
 
@@ -42,6 +46,7 @@ module _ {X : Type 0} (first : Phase X Cause) (next : X → Phase Output Cause) 
 pub stops_also : {X Y : Type 0} (phase : Phase X Cause) (also : Phase Y Cause) → ((cause : Cause) → phase (Err cause) → also (Err cause)) → (cause : Cause)
     → MayStopBy phase cause → MayStopBy also cause
 stops_also phase also each Done h = absurd h
+stops_also phase also each Differs h = absurd h
 stops_also phase also each WriteFault h = absurd h
 stops_also phase also each OutOfMemory h = tt
 stops_also phase also each BadWords h = each BadWords h
@@ -49,6 +54,7 @@ stops_also phase also each ReadFault h = each ReadFault h
 stops_also phase also each (TooLong file) h = each (TooLong file) h
 stops_also phase also each (Refused file r) h = each (Refused file r) h
 stops_also phase also each (Unbuilt file) h = each (Unbuilt file) h
+stops_also phase also each (QubitsDiffer m n) h = each (QubitsDiffer m n) h
 stops_also phase also each (Width step) h = each (Width step) h
 stops_also phase also each WeightTooWide h = each WeightTooWide h
 

@@ -3,6 +3,7 @@ mod WalkLemmas
 mod Endings
 mod StepLemmas
 mod SimLemmas
+mod EqLemmas
 mod OutcomeLines
 mod ProbLemmas
 mod CommandLemmas

@@ -7,8 +7,10 @@ use Rattle.sliq_engine.specs.declared.words.Task.{Task}
 use Rattle.sliq_engine.specs.declared.words.Task.TheVariants as task
 use Rattle.sliq_engine.specs.Steps.{Output}
 use Rattle.sliq_engine.specs.Sim.{Sims}
+use Rattle.sliq_engine.specs.Eq.{Compares}
 use Rattle.sliq_engine.specs.Prob.{Weighs}
 
 abbrev pub CarriesOut : Task → Settings → List (List ℕ) → Phase Output Cause
 CarriesOut task.Sim rules texts = Sims rules (get_or texts 0 [])
 CarriesOut task.Prob rules texts = Weighs rules (get_or texts 0 [])
+CarriesOut task.Eq rules texts = Compares rules (get_or texts 0 []) (get_or texts 1 [])

@@ -4,6 +4,7 @@ pub mod Listing
 pub mod Steps
 pub mod Taking
 pub mod Sim
+pub mod Eq
 pub mod Prob
 pub mod Commands
 pub mod Comes

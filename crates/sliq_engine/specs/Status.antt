@@ -4,16 +4,18 @@ use Rattle.std.specs.Fmt.{decimal}
 use Rattle.outside.specs.Outside.{Rose}
 use Rattle.outside.specs.Bytes.{Added, AddedSome}
 use Rattle.sliq_engine.specs.declared.cause.Cause.{Cause}
-use Rattle.sliq_engine.specs.declared.cause.Cause.TheVariants.{Done, BadWords, ReadFault, TooLong, Refused, Unbuilt, Width, WeightTooWide, WriteFault, OutOfMemory}
+use Rattle.sliq_engine.specs.declared.cause.Cause.TheVariants.{Done, Differs, BadWords, ReadFault, TooLong, Refused, Unbuilt, QubitsDiffer, Width, WeightTooWide, WriteFault, OutOfMemory}
 use Rattle.sliq_engine.specs.Refusals.{reason_text}
 
 abbrev pub status_of : Cause → ℕ
 status_of Done = 0
+status_of Differs = 1
 status_of BadWords = 2
 status_of ReadFault = 3
 status_of (TooLong _) = 4
 status_of (Refused _ _) = 4
 status_of (Unbuilt _) = 4
+status_of (QubitsDiffer _ _) = 4
 status_of (Width _) = 5
 status_of WeightTooWide = 5
 status_of WriteFault = 6
@@ -21,12 +23,14 @@ status_of OutOfMemory = 7
 
 abbrev pub lines_of : Cause → List ℕ
 lines_of Done = []
+lines_of Differs = []
 lines_of BadWords =
     codes "sliq: bad words\nusage: sliq sim FILE [--input BITS] | eq FILE FILE | prob FILE | demo QUBITS GATES SEED, with --width --nodes --cache --reclaim --sift\n"
 lines_of ReadFault = codes "sliq: read fault\n"
 lines_of (TooLong file) = codes "sliq: file " ++ decimal file ++ codes " too long\n"
 lines_of (Refused file r) = codes "sliq: file " ++ decimal file ++ codes " statement " ++ decimal r.statement ++ codes ": " ++ reason_text r.why ++ codes "\n"
 lines_of (Unbuilt file) = codes "sliq: file " ++ decimal file ++ codes " not built yet\n"
+lines_of (QubitsDiffer first second) = codes "sliq: qubits differ: " ++ decimal first ++ codes " and " ++ decimal second ++ codes "\n"
 lines_of (Width step) = codes "sliq: width limit at step " ++ decimal step ++ codes "\n"
 lines_of WeightTooWide = codes "sliq: weight too wide\n"
 lines_of WriteFault = codes "sliq: write fault\n"

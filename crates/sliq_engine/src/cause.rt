@@ -4,6 +4,7 @@ ghost use Rattle.sliq_engine.specs.Status.{status_of};
 
 use crate::output::SendStop;
 use amp_dense::Stop;
+use dense_matrix::MatrixStop;
 use probabilities::WeighStop;
 use qasm_reader::Refusal;
 
@@ -12,6 +13,8 @@ use qasm_reader::Refusal;
 pub enum Cause {
     /// The whole output was written.
     Done,
+    /// The two circuits aren't the same up to a scalar, and the whole output was written.
+    Differs,
     /// The words ask for no command.
     BadWords,
     /// A file could not be opened or read.
@@ -20,9 +23,11 @@ pub enum Cause {
     TooLong { file: u8 },
     /// This file's text is refused.
     Refused { file: u8, refusal: Refusal },
-    /// This file's circuit has more than 12 qubits, which the engine is not built for yet.
+    /// This file's circuit has more qubits than the engine is built for yet: 12 where it is simulated, 6 where it is compared.
     Unbuilt { file: u8 },
-    /// At this gate of the circuit, counted from 1, a coefficient was wider than 128 bits.
+    /// The two circuits have different numbers of qubits.
+    QubitsDiffer { first: u8, second: u8 },
+    /// At this gate of the circuit, or step of the comparison, counted from 1, a coefficient was wider than 128 bits.
     Width { step: u32 },
     /// The weight of all states has a part without √2 of 2^127 or more.
     WeightTooWide,
@@ -45,9 +50,13 @@ impl Cause {
     {
         match self {
             Cause::Done => 0,
+            Cause::Differs => 1,
             Cause::BadWords => 2,
             Cause::ReadFault => 3,
-            Cause::TooLong { .. } | Cause::Refused { .. } | Cause::Unbuilt { .. } => 4,
+            Cause::TooLong { .. }
+            | Cause::Refused { .. }
+            | Cause::Unbuilt { .. }
+            | Cause::QubitsDiffer { .. } => 4,
             Cause::Width { .. } | Cause::WeightTooWide => 5,
             Cause::WriteFault => 6,
             Cause::OutOfMemory => 7,
@@ -93,6 +102,20 @@ impl From<SendStop> for Cause {
         match stop {
             SendStop::Fault => Cause::WriteFault,
             SendStop::OutOfMemory => Cause::OutOfMemory,
+        }
+    }
+}
+
+impl From<MatrixStop> for Cause {
+    ghost use Rattle.std.specs.Prelude.{◌≡◌};
+    ghost use Rattle.sliq_engine.specs.Private.{cause_of_matrix};
+
+    ghost from_gives = { λ stop cause. cause ≡ cause_of_matrix stop };
+
+    fn from(stop: MatrixStop) -> Self {
+        match stop {
+            MatrixStop::Width { step } => Cause::Width { step },
+            MatrixStop::OutOfMemory => Cause::OutOfMemory,
         }
     }
 }

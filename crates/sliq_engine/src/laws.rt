@@ -1,6 +1,7 @@
 //! Laws of the top call's definitions. Each call does nothing: its contract is the law.
-ghost use Rattle.std.specs.Prelude.{◌≡◌, ◌∷◌, [], List, ℕ, codes};
-ghost use Rattle.std.specs.Prelude.{Some, IsSome};
+ghost use Rattle.std.specs.Prelude.{◌≡◌, ◌↔◌, ◌∷◌, [], List, ℕ, codes, Ok, Some, IsSome};
+ghost use Rattle.gate_set.specs.Circuits.{Circuit, IsCircuit};
+ghost use Rattle.comparison.specs.Scalars.{AreSame};
 ghost use Rattle.std.specs.List.{AllByRecursion};
 ghost use Rattle.outside.specs.Memory.{Shelved, text_of, memory};
 ghost use Rattle.sliq_engine.specs.Comes.{Comes};
@@ -8,8 +9,11 @@ ghost use Rattle.phases.specs.Phases.{Agree, HasOneEnd, HasSomeEnd};
 ghost use Rattle.sliq_engine.specs.Asked.{Asked, asked_of};
 ghost use Rattle.sliq_engine.specs.Commands.{CarriesOut};
 ghost use Rattle.sliq_engine.specs.Laws.{IsSure};
+ghost use Rattle.sliq_engine.specs.Steps.{Output};
 ghost use Rattle.sliq_engine.specs.Sim.{sim_output};
+ghost use Rattle.sliq_engine.specs.Eq.{Says};
 
+use crate::cause::Cause;
 use gate_set::Kind;
 
 /// Whatever is asked for, on whatever texts, comes to one output at most, or to one cause.
@@ -27,6 +31,16 @@ pub fn one_run()
     ensures { (words : List (List ℕ)) (old new other : Shelved) → ((asked : Asked) → asked_of words ≡ Some asked → AllByRecursion (λ name. IsSome (text_of old name)) asked.files)
         → Agree IsSure (Comes memory words old new) (Comes memory words old other) }
 {}
+
+/// What is said of two circuits on as many qubits ends a run as Done exactly where they are the same up to a scalar, and else as Differs.
+pub fn eq_exactly()
+    ensures done { (u v : Circuit) (output : Output) → IsCircuit u → IsCircuit v → u.qubits ≡ v.qubits → Says u v (Ok output)
+        → (output.cause ≡ Cause.Done) ↔ AreSame u.qubits u.gates v.gates }
+    ensures differs { (u v : Circuit) (output : Output) → IsCircuit u → IsCircuit v → u.qubits ≡ v.qubits → Says u v (Ok output)
+        → (output.cause ≡ Cause.Differs) ↔ (¬ AreSame u.qubits u.gates v.gates) }
+{
+    let _ = Cause::Differs;
+}
 
 /// What `sim` writes of small circuits: a Bell pair, no gate, H twice, and H T H.
 pub fn small_outputs()

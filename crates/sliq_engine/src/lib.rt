@@ -2,6 +2,7 @@
 #![tactic(auto)]
 
 mod cause;
+mod eq;
 mod laws;
 mod message;
 mod outcomes;
@@ -16,9 +17,11 @@ mod top;
 mod words;
 
 pub use cause::{Cause, Ended};
-pub use laws::{one_end, one_run, small_outputs, some_end};
+pub use laws::{eq_exactly, one_end, one_run, small_outputs, some_end};
 pub use top::{end, run};
 
+#[cfg(test)]
+mod eq_tests;
 #[cfg(test)]
 mod prob_tests;
 #[cfg(test)]

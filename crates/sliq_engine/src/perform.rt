@@ -7,6 +7,7 @@ ghost use Rattle.sliq_engine.specs.Ending.{MayEnd};
 ghost use Rattle.sliq_engine.specs.Private.{bytes_of};
 
 use crate::cause::Cause;
+use crate::eq::eq;
 use crate::prob::prob;
 use crate::sim::sim;
 use crate::words::Task;
@@ -32,5 +33,6 @@ pub fn perform<K: Sink>(
     match task {
         Task::Sim => sim(alloc, out, &texts[0], rules),
         Task::Prob => prob(alloc, out, &texts[0], rules),
+        Task::Eq => eq(alloc, out, &texts[0], &texts[1], rules),
     }
 }

@@ -1,0 +1,12 @@
+pub mod Sums
+pub mod Linear
+pub mod Bits
+pub mod Undo
+pub mod Columns
+pub mod ScalarTest
+pub mod Working
+pub mod Order
+pub mod Positions
+pub mod Fits
+pub mod Values
+pub mod Verdicts

@@ -1,0 +1,4 @@
+pub mod Scalars
+pub mod Products
+pub mod Steps
+pub mod Verdicts

@@ -1,0 +1,4 @@
+pub mod Splits
+pub mod Terms
+pub mod TurnLemmas
+pub mod Matrices

@@ -1,0 +1,13 @@
+//! The comparison of two circuits by a list of all entries of the matrix U·V†.
+#![tactic(auto)]
+
+mod comparing;
+mod matrix;
+mod places;
+mod step;
+#[cfg(test)]
+mod tests;
+mod turns;
+mod witness;
+
+pub use comparing::{MatrixStop, compare};

@@ -1,0 +1,212 @@
+-- How `eq` ends, exit by exit, and that it has one end.
+use Rattle.std.proofs.Common.{◌≡◌, ◌≢◌, ◌⊎◌, inl, inr, ◌↔◌, ℕ, ◌<◌, ◌≤◌, List, Option, Result, Ok, Err, All, length, refl, sym, ◌∙◌, ap, subst, arith}
+use Rattle.std.proofs.lemmas.Bool.{cases_eq}
+use Rattle.ring_omega.specs.declared.quad.Quad.{Quad}
+use Rattle.gate_set.specs.Circuits.{Circuit, IsCircuit}
+use Rattle.gate_set.specs.Shape.{IsOn}
+use Rattle.circuit_model.specs.Product.{exponent}
+use Rattle.circuit_model.proofs.PrefixLemmas.{first_failing-apart, one_first_failing}
+use Rattle.amp_dense.specs.Rules.{Settings}
+use Rattle.amp_printer.specs.declared.verdict.Verdict.{Verdict}
+use Rattle.amp_printer.specs.declared.verdict.Verdict.TheVariants as verdicts
+use Rattle.amp_printer.specs.Verdicts.{verdict_text}
+use Rattle.comparison.specs.Scalars.{AreSame, comparison, compared}
+use Rattle.comparison.specs.Products.{RawStepFits, AllStepsFit, IsFirstUnfitStep}
+use Rattle.comparison.specs.Steps.{steps_of}
+use Rattle.comparison.specs.Verdicts.{IsVerdict}
+use Rattle.comparison.proofs.Fits.{steps_fit_or_first_unfit}
+use Rattle.comparison.proofs.Verdicts.{one_verdict, some_verdict, scalar_told}
+use Rattle.dense_matrix.specs.declared.comparing.MatrixStop.{MatrixStop}
+use Rattle.dense_matrix.specs.declared.comparing.MatrixStop.TheVariants as matrices
+use Rattle.dense_matrix.specs.Stops.{StopMeans}
+use Rattle.outside.specs.Bytes.{Added, AddedSome}
+use Rattle.phases.specs.Phases.{HasOneEnd, HasSomeEnd, ◌>>=◌, StopsWhere}
+use Rattle.phases.proofs.Ends.{one_after, one_stops_where, some_after, some_stops_where}
+use Rattle.sliq_engine.specs.declared.output.SendStop.{SendStop}
+use Rattle.sliq_engine.specs.declared.output.SendStop.TheVariants as sends
+use Rattle.sliq_engine.specs.declared.cause.Cause.{Cause}
+use Rattle.sliq_engine.specs.declared.cause.Cause.TheVariants.{Done, Differs, Unbuilt, QubitsDiffer, Width, WriteFault, OutOfMemory}
+use Rattle.sliq_engine.specs.Steps.{Reads, Output, Writes}
+use Rattle.sliq_engine.specs.Eq.{Multiplies, told_by, Says, Compares}
+use Rattle.sliq_engine.specs.Ending.{MayEnd, MayStopBy}
+use Rattle.sliq_engine.specs.Private.{cause_of_sending, cause_of_matrix}
+use Rattle.sliq_engine.specs.Laws.{IsSure}
+use Rattle.sliq_engine.proofs.Endings.{ends_first, ends_after}
+use Rattle.sliq_engine.proofs.StepLemmas.{one_reads, some_reads, some_built}
+
+-- ---- one end
+one_multiplies : (rules : Settings) (u v : Circuit) → HasOneEnd IsSure (Multiplies rules u v)
+one_multiplies rules u v (Ok a) (Ok b) p q s t = refl
+one_multiplies rules u v (Ok a) (Err c) p q s t = absurd (first_failing-apart (RawStepFits rules.width u.qubits) (steps_of u.gates v.gates) q.0 q.1 p)
+one_multiplies rules u v (Err c) (Ok b) p q s t = absurd (first_failing-apart (RawStepFits rules.width u.qubits) (steps_of u.gates v.gates) p.0 p.1 q)
+one_multiplies rules u v (Err c) (Err d) p q s t =
+    let same = one_first_failing (RawStepFits rules.width u.qubits) (steps_of u.gates v.gates) p.0 q.0 p.1 q.1 in
+    ap Err (p.2 ∙ ap (λ (n : ℕ). Width n) same ∙ sym q.2)
+
+one_says : (u v : Circuit) → HasOneEnd IsSure (Says u v)
+one_says u v a b p q s t =
+    let same = one_verdict u.qubits (compared u.gates v.gates) (exponent (comparison u.gates v.gates)) p.0 q.0 p.1 q.1 in
+    p.2 ∙ ap (λ (w : Verdict). let o : Output = record { cause = told_by w; bytes = verdict_text w } in let r : Result Output Cause = Ok o in r) same ∙ sym q.2
+
+pub one_compares : (rules : Settings) (one two : List ℕ) → HasOneEnd IsSure (Compares rules one two)
+one_compares rules one two =
+    one_after IsSure _ _ (one_reads 1 one)
+    (λ u. one_after IsSure _ _ (one_reads 2 two)
+    (λ v. one_after IsSure _ _ (one_stops_where IsSure (6 < u.qubits) (Unbuilt 1))
+    (λ _. one_after IsSure _ _ (one_stops_where IsSure (6 < v.qubits) (Unbuilt 2))
+    (λ _. one_after IsSure _ _ (one_stops_where IsSure (u.qubits ≢ v.qubits) (QubitsDiffer u.qubits v.qubits))
+    (λ _. one_after IsSure _ _ (one_multiplies rules u v) (λ _. one_says u v))))))
+
+-- ---- some end
+some_multiplies : (rules : Settings) (u v : Circuit) → HasSomeEnd IsSure (Multiplies rules u v)
+some_multiplies rules u v = by (steps_fit_or_first_unfit rules.width u.qubits (steps_of u.gates v.gates))
+  where
+    by : AllStepsFit rules.width u.qubits (steps_of u.gates v.gates) ⊎ ((number : ℕ) × IsFirstUnfitStep rules.width u.qubits (steps_of u.gates v.gates) number)
+        → HasSomeEnd IsSure (Multiplies rules u v)
+    by (inl all) = (Ok tt, all, tt)
+    by (inr first) = (Err (Width first.0), (first.0, first.1, refl), tt)
+
+some_says : (u v : Circuit) → HasSomeEnd IsSure (Says u v)
+some_says u v =
+    let s = some_verdict u.qubits (compared u.gates v.gates) (exponent (comparison u.gates v.gates)) in
+    (Ok (record { cause = told_by s.0; bytes = verdict_text s.0 }), (s.0, s.1, refl), tt)
+
+some_same : (m n : ℕ) → HasSomeEnd IsSure (StopsWhere (m ≢ n) (QubitsDiffer m n))
+some_same m n = some_stops_where IsSure (m ≢ n) (QubitsDiffer m n) tt (elim (cases_eq m n) [ inl e ↦ inr (λ h. h e) | inr ne ↦ inl ne ])
+
+pub some_compares : (rules : Settings) (one two : List ℕ) → HasSomeEnd IsSure (Compares rules one two)
+some_compares rules one two =
+    some_after IsSure _ _ (some_reads 1 one)
+    (λ u. some_after IsSure _ _ (some_reads 2 two)
+    (λ v. some_after IsSure _ _ (some_built 6 u.qubits 1)
+    (λ _. some_after IsSure _ _ (some_built 6 v.qubits 2)
+    (λ _. some_after IsSure _ _ (some_same u.qubits v.qubits)
+    (λ _. some_after IsSure _ _ (some_multiplies rules u v) (λ _. some_says u v))))))
+
+-- ---- the stop of a comparison, as it is told
+pub comparison_stops : (rules : Settings) (u v : Circuit) (stop : MatrixStop) → StopMeans rules.width u.qubits (steps_of u.gates v.gates) stop
+    → MayStopBy (Multiplies rules u v) (cause_of_matrix stop)
+comparison_stops rules u v (matrices.Width step) h = (step, h, refl)
+comparison_stops rules u v matrices.OutOfMemory h = tt
+
+-- ---- how it ends
+module _ (rules : Settings) (one two : List ℕ) where
+  -- the first text is refused
+  pub eq_refused : (cause : Cause) (out : Option (List ℕ)) → MayStopBy (Reads 1 one) cause → MayEnd (Compares rules one two) cause out out
+  eq_refused cause out h = ends_first (Reads 1 one) _ cause out h
+
+  module _ (u : Circuit) (first : Reads 1 one (Ok u)) where
+    -- the second text is refused
+    pub eq_refused_second : (cause : Cause) (out : Option (List ℕ)) → MayStopBy (Reads 2 two) cause → MayEnd (Compares rules one two) cause out out
+    eq_refused_second cause out h = ends_after (Reads 1 one) _ u cause out out first (ends_first (Reads 2 two) _ cause out h)
+
+    module _ (v : Circuit) (second : Reads 2 two (Ok v)) where
+      -- the first circuit has too many qubits
+      pub eq_unbuilt : (cause : Cause) (out : Option (List ℕ)) → MayStopBy (StopsWhere (6 < u.qubits) (Unbuilt 1)) cause → MayEnd (Compares rules one two) cause out out
+      eq_unbuilt cause out h =
+          ends_after (Reads 1 one) _ u cause out out first
+          (ends_after (Reads 2 two) _ v cause out out second
+          (ends_first (StopsWhere (6 < u.qubits) (Unbuilt 1)) _ cause out h))
+
+      module _ (small : ¬ (6 < u.qubits)) where
+        -- the second one has
+        pub eq_unbuilt_second : (cause : Cause) (out : Option (List ℕ)) → MayStopBy (StopsWhere (6 < v.qubits) (Unbuilt 2)) cause → MayEnd (Compares rules one two) cause out out
+        eq_unbuilt_second cause out h =
+            ends_after (Reads 1 one) _ u cause out out first
+            (ends_after (Reads 2 two) _ v cause out out second
+            (ends_after (StopsWhere (6 < u.qubits) (Unbuilt 1)) _ tt cause out out small
+            (ends_first (StopsWhere (6 < v.qubits) (Unbuilt 2)) _ cause out h)))
+
+        module _ (small_second : ¬ (6 < v.qubits)) where
+          -- the numbers of qubits differ
+          pub eq_unlike : (cause : Cause) (out : Option (List ℕ)) → MayStopBy (StopsWhere (u.qubits ≢ v.qubits) (QubitsDiffer u.qubits v.qubits)) cause
+              → MayEnd (Compares rules one two) cause out out
+          eq_unlike cause out h =
+              ends_after (Reads 1 one) _ u cause out out first
+              (ends_after (Reads 2 two) _ v cause out out second
+              (ends_after (StopsWhere (6 < u.qubits) (Unbuilt 1)) _ tt cause out out small
+              (ends_after (StopsWhere (6 < v.qubits) (Unbuilt 2)) _ tt cause out out small_second
+              (ends_first (StopsWhere (u.qubits ≢ v.qubits) (QubitsDiffer u.qubits v.qubits)) _ cause out h))))
+
+          module _ (same : u.qubits ≡ v.qubits) where
+            -- the phases before the steps are passed
+            passed : (cause : Cause) (old new : Option (List ℕ)) → MayEnd (Multiplies rules u v >>= (λ _. Says u v)) cause old new → MayEnd (Compares rules one two) cause old new
+            passed cause old new h =
+                ends_after (Reads 1 one) _ u cause old new first
+                (ends_after (Reads 2 two) _ v cause old new second
+                (ends_after (StopsWhere (6 < u.qubits) (Unbuilt 1)) _ tt cause old new small
+                (ends_after (StopsWhere (6 < v.qubits) (Unbuilt 2)) _ tt cause old new small_second
+                (ends_after (StopsWhere (u.qubits ≢ v.qubits) (QubitsDiffer u.qubits v.qubits)) _ tt cause old new (λ ne. ne same) h))))
+
+            -- a step doesn't fit, or memory was wanted
+            pub eq_halts : (stop : MatrixStop) (out : Option (List ℕ)) → StopMeans rules.width u.qubits (steps_of u.gates v.gates) stop
+                → MayEnd (Compares rules one two) (cause_of_matrix stop) out out
+            eq_halts stop out h =
+                passed (cause_of_matrix stop) out out (ends_first (Multiplies rules u v) _ (cause_of_matrix stop) out (comparison_stops rules u v stop h))
+
+            module _ (fits : AllStepsFit rules.width u.qubits (steps_of u.gates v.gates)) (verdict : Verdict)
+                (is : IsVerdict u.qubits (compared u.gates v.gates) (exponent (comparison u.gates v.gates)) verdict) where
+              ended : (cause : Cause) (old new : Option (List ℕ)) → MayEnd (Says u v) cause old new → MayEnd (Compares rules one two) cause old new
+              ended cause old new h = passed cause old new (ends_after (Multiplies rules u v) _ tt cause old new fits h)
+
+              abbrev output : Output
+              output = record { cause = told_by verdict; bytes = verdict_text verdict }
+
+              -- it stops while the output is sent
+              pub eq_stops : (stop : SendStop) (old new : Option (List ℕ)) → AddedSome old new (verdict_text verdict) → MayEnd (Compares rules one two) (cause_of_sending stop) old new
+              eq_stops stop old new some = ended (cause_of_sending stop) old new (by stop)
+                where
+                  by : (stop : SendStop) → MayEnd (Says u v) (cause_of_sending stop) old new
+                  by sends.Fault = (output, (verdict, is, refl), some)
+                  by sends.OutOfMemory = inr (output, (verdict, is, refl), some)
+
+              -- the output is written
+              wrote : (cause : Cause) (old new : Option (List ℕ)) → told_by verdict ≡ cause → Added old new (verdict_text verdict)
+                  → (bytes : List ℕ) × Says u v (Ok (record { cause = cause; bytes = bytes })) × Added old new bytes
+              wrote cause old new told all = (
+                verdict_text verdict,
+                (verdict, is, ap (λ (k : Cause). let o : Output = record { cause = k; bytes = verdict_text verdict } in let r : Result Output Cause = Ok o in r) (sym told)),
+                all,
+              )
+
+              pub eq_done : (old new : Option (List ℕ)) → told_by verdict ≡ Done → Added old new (verdict_text verdict) → MayEnd (Compares rules one two) Done old new
+              eq_done old new told all = ended Done old new (wrote Done old new told all)
+
+              pub eq_differs : (old new : Option (List ℕ)) → told_by verdict ≡ Differs → Added old new (verdict_text verdict) → MayEnd (Compares rules one two) Differs old new
+              eq_differs old new told all = ended Differs old new (wrote Differs old new told all)
+
+-- ---- which cause
+abbrev cause_in : Result Output Cause → Cause
+cause_in (Ok output) = output.cause
+cause_in (Err cause) = cause
+
+module _ (u v : Circuit) (output : Output) (cu : IsCircuit u) (cv : IsCircuit v) (same : u.qubits ≡ v.qubits) where
+  within : All (IsOn u.qubits) v.gates
+  within = subst (λ n. All (IsOn n) v.gates) (sym same) cv.within
+
+  told : (w : Verdict) → IsVerdict u.qubits (compared u.gates v.gates) (exponent (comparison u.gates v.gates)) w → AreSame u.qubits u.gates v.gates ↔ ((q : Quad) × (k : ℕ) × (w ≡ verdicts.Scalar q k))
+  told w is = scalar_told u.qubits u.gates v.gates w cu.within within is
+
+  cause_is : (w : Verdict) → Writes (told_by w) (verdict_text w) (Ok output) → output.cause ≡ told_by w
+  cause_is w e = ap cause_in e
+
+  -- a run that wrote a verdict ends as Done exactly where the circuits are the same up to a scalar
+  pub done_exactly : Says u v (Ok output) → (output.cause ≡ Done) ↔ AreSame u.qubits u.gates v.gates
+  done_exactly says = by says.0 says.1 (cause_is says.0 says.2)
+    where
+      by : (w : Verdict) → IsVerdict u.qubits (compared u.gates v.gates) (exponent (comparison u.gates v.gates)) w → output.cause ≡ told_by w → (output.cause ≡ Done) ↔ AreSame u.qubits u.gates v.gates
+      by (verdicts.Scalar q k) is e = ((λ _. (told (verdicts.Scalar q k) is).1 (q, k, refl)), (λ _. e))
+      by (verdicts.Differs row col value own) is e = (
+        (λ done. absurd (let clash : Differs ≡ Done = sym e ∙ done in cc)),
+        (λ s. absurd (let found = (told (verdicts.Differs row col value own) is).0 s in let clash : verdicts.Differs row col value own ≡ verdicts.Scalar found.0 found.1 = found.2 in cc)),
+      )
+
+  -- and else as Differs
+  pub differs_exactly : Says u v (Ok output) → (output.cause ≡ Differs) ↔ (¬ AreSame u.qubits u.gates v.gates)
+  differs_exactly says = by says.0 says.1 (cause_is says.0 says.2)
+    where
+      by : (w : Verdict) → IsVerdict u.qubits (compared u.gates v.gates) (exponent (comparison u.gates v.gates)) w → output.cause ≡ told_by w → (output.cause ≡ Differs) ↔ (¬ AreSame u.qubits u.gates v.gates)
+      by (verdicts.Scalar q k) is e =
+          ((λ differs. absurd (let clash : Done ≡ Differs = sym e ∙ differs in cc)), (λ not. absurd (not ((told (verdicts.Scalar q k) is).1 (q, k, refl)))))
+      by (verdicts.Differs row col value own) is e =
+          ((λ _ s. (let found = (told (verdicts.Differs row col value own) is).0 s in let clash : verdicts.Differs row col value own ≡ verdicts.Scalar found.0 found.1 = found.2 in cc)), (λ _. e))

@@ -1,0 +1,107 @@
+use Rattle.std.proofs.Common.{rules, ◌≡◌, ◌<◌, ◌≤◌, ℕ, List, Option, inl, inr, Err, Ok, sym, ◌∙◌, ap, subst, arith}
+use Rattle.std.proofs.lemmas.Bool.{cases_lt}
+use Rattle.gate_set.specs.Circuits.{Circuit}
+use Rattle.circuit_model.specs.Product.{exponent}
+use Rattle.amp_dense.specs.Rules.{Settings}
+use Rattle.amp_printer.specs.declared.verdict.Verdict.{Verdict}
+use Rattle.comparison.specs.Scalars.{comparison, compared}
+use Rattle.comparison.specs.Products.{AllStepsFit}
+use Rattle.comparison.specs.Steps.{steps_of}
+use Rattle.comparison.proofs.Verdicts.{verdict-short}
+use Rattle.dense_matrix.specs.declared.comparing.MatrixStop.{MatrixStop}
+use Rattle.dense_matrix.specs.Stops.{StopMeans}
+use Rattle.sliq_engine.specs.declared.output.SendStop.{SendStop}
+use Rattle.sliq_engine.specs.declared.cause.Cause.{Cause}
+use Rattle.sliq_engine.specs.declared.cause.Cause.TheVariants.{Differs}
+use Rattle.sliq_engine.specs.Eq.{Compares, told_by}
+use Rattle.sliq_engine.specs.Ending.{MayEnd}
+use Rattle.sliq_engine.specs.Private.{cause_of_sending, cause_of_matrix}
+use Rattle.sliq_engine.proofs.EqLemmas.{eq_refused, eq_refused_second, eq_unbuilt, eq_unbuilt_second, eq_unlike, eq_halts, eq_stops, eq_done, eq_differs}
+use Rattle.sliq_engine.proofs.eq.eq.Goals as goal
+
+pub returns-in_err-u-clause-stop : goal.returns-in_err-u-clause-stop
+returns-in_err-u-clause-stop g c =
+    let cause : Cause = c.in_err-u.field-0.0 in
+    let told : c.from_residual.result ≡ Err cause = search rules in
+    rw told (eq_refused c.args.rules.now c.args.one.now c.args.two.now cause (g.K.Sink.written c.args.out.now) c.in_err-u.ensures.stop)
+
+pub returns-in_err-v-clause-stop : goal.returns-in_err-v-clause-stop
+returns-in_err-v-clause-stop g c =
+    let cause : Cause = c.in_err-v.field-0.0 in
+    let told : c.from_residual-in_err-v.result ≡ Err cause = search rules in
+    rw told (eq_refused_second c.args.rules.now c.args.one.now c.args.two.now c.in_ok-u.u c.in_ok-u.ensures.reads cause (g.K.Sink.written c.args.out.now) c.in_err-v.ensures.stop)
+
+pub returns-in_err-check_built-clause-stop : goal.returns-in_err-check_built-clause-stop
+returns-in_err-check_built-clause-stop g c =
+    let cause : Cause = c.in_err-check_built.field-0.0 in
+    let told : c.from_residual-in_err-check_built.result ≡ Err cause = search rules in
+    rw told (eq_unbuilt c.args.rules.now c.args.one.now c.args.two.now c.in_ok-u.u c.in_ok-u.ensures.reads c.in_ok-v.v c.in_ok-v.ensures.reads cause (g.K.Sink.written c.args.out.now) c.in_err-check_built.ensures.stop)
+
+pub returns-in_err-check_built-2-clause-stop : goal.returns-in_err-check_built-2-clause-stop
+returns-in_err-check_built-2-clause-stop g c =
+    let cause : Cause = c.in_err-check_built-2.field-0.0 in
+    let told : c.from_residual-in_err-check_built-2.result ≡ Err cause = search rules in
+    rw told (eq_unbuilt_second c.args.rules.now c.args.one.now c.args.two.now c.in_ok-u.u c.in_ok-u.ensures.reads c.in_ok-v.v c.in_ok-v.ensures.reads c.in_ok-check_built.ensures.built cause (g.K.Sink.written c.args.out.now) c.in_err-check_built-2.ensures.stop)
+
+pub returns-in_err-check_qubits-clause-stop : goal.returns-in_err-check_qubits-clause-stop
+returns-in_err-check_qubits-clause-stop g c =
+    let cause : Cause = c.in_err-check_qubits.field-0.0 in
+    let told : c.from_residual-in_err-check_qubits.result ≡ Err cause = search rules in
+    rw told (eq_unlike c.args.rules.now c.args.one.now c.args.two.now c.in_ok-u.u c.in_ok-u.ensures.reads c.in_ok-v.v c.in_ok-v.ensures.reads c.in_ok-check_built.ensures.built c.in_ok-check_built-2.ensures.built cause (g.K.Sink.written c.args.out.now) c.in_err-check_qubits.ensures.stop)
+
+-- what isn't more than another number is at most it
+at_most : (m n : ℕ) → ¬ (m < n) → n ≤ m
+at_most m n h = elim (cases_lt m n) [ inl l ↦ absurd (h l) | inr e ↦ e ]
+
+pub compare-requires-clause-small : goal.compare-requires-clause-small
+compare-requires-clause-small g c = at_most 6 c.in_ok-u.u.qubits c.in_ok-check_built.ensures.built
+
+pub returns-in_err-verdict-clause-stop : goal.returns-in_err-verdict-clause-stop
+returns-in_err-verdict-clause-stop g c =
+    let u : Circuit = c.in_ok-u.u in
+    let v : Circuit = c.in_ok-v.v in
+    let stop : MatrixStop = c.in_err-verdict.field-0.0 in
+    let told : c.from_residual-in_err-verdict.result ≡ Err (cause_of_matrix stop) = search rules in
+    let means : StopMeans c.args.rules.now.width u.qubits (steps_of u.gates v.gates) stop =
+    subst (λ (w : ℕ). StopMeans w u.qubits (steps_of u.gates v.gates) stop) c.width.ensures.value c.in_err-verdict.ensures.stop in
+    rw told (eq_halts c.args.rules.now c.args.one.now c.args.two.now c.in_ok-u.u c.in_ok-u.ensures.reads c.in_ok-v.v c.in_ok-v.ensures.reads c.in_ok-check_built.ensures.built c.in_ok-check_built-2.ensures.built c.in_ok-check_qubits.ensures.same stop (g.K.Sink.written c.args.out.now) means)
+
+pub send_verdict-requires : goal.send_verdict-requires
+send_verdict-requires g c =
+    let u : Circuit = c.in_ok-u.u in
+    let v : Circuit = c.in_ok-v.v in
+    let few = at_most 6 u.qubits c.in_ok-check_built.ensures.built in
+    verdict-short u.qubits (compared u.gates v.gates) (exponent (comparison u.gates v.gates)) c.in_ok-verdict.verdict (omega arith) c.in_ok-verdict.ensures.verdict
+
+pub returns-in_err-send_verdict-clause-stop : goal.returns-in_err-send_verdict-clause-stop
+returns-in_err-send_verdict-clause-stop g c =
+    let u : Circuit = c.in_ok-u.u in
+    let v : Circuit = c.in_ok-v.v in
+    let stop : SendStop = c.in_err-send_verdict.field-0.0 in
+    let told : c.from_residual-in_err-send_verdict.result ≡ Err (cause_of_sending stop) = search rules in
+    let fits : AllStepsFit c.args.rules.now.width u.qubits (steps_of u.gates v.gates) =
+    subst (λ (w : ℕ). AllStepsFit w u.qubits (steps_of u.gates v.gates)) c.width.ensures.value c.in_ok-verdict.ensures.fits in
+    rw told (eq_stops c.args.rules.now c.args.one.now c.args.two.now c.in_ok-u.u c.in_ok-u.ensures.reads c.in_ok-v.v c.in_ok-v.ensures.reads c.in_ok-check_built.ensures.built c.in_ok-check_built-2.ensures.built c.in_ok-check_qubits.ensures.same fits c.in_ok-verdict.verdict c.in_ok-verdict.ensures.verdict stop
+    (g.K.Sink.written c.args.out.now) (g.K.Sink.written c.send_verdict.new.out) c.in_err-send_verdict.ensures.err)
+
+pub returns-in_err-told-clause-stop : goal.returns-in_err-told-clause-stop
+returns-in_err-told-clause-stop g c =
+    let u : Circuit = c.in_ok-u.u in
+    let v : Circuit = c.in_ok-v.v in
+    let cause : Cause = c.in_err-told.field-0.0 in
+    let told : c.from_residual-in_err-told.result ≡ Err cause = search rules in
+    let fits : AllStepsFit c.args.rules.now.width u.qubits (steps_of u.gates v.gates) =
+    subst (λ (w : ℕ). AllStepsFit w u.qubits (steps_of u.gates v.gates)) c.width.ensures.value c.in_ok-verdict.ensures.fits in
+    let said = c.in_err-told.ensures.differs in
+    let P : Cause → Type 0 = λ k. MayEnd (Compares c.args.rules.now c.args.one.now c.args.two.now) k (g.K.Sink.written c.args.out.now) (g.K.Sink.written c.send_verdict.new.out) in
+    rw told (subst P (sym said.1) (eq_differs c.args.rules.now c.args.one.now c.args.two.now c.in_ok-u.u c.in_ok-u.ensures.reads c.in_ok-v.v c.in_ok-v.ensures.reads c.in_ok-check_built.ensures.built c.in_ok-check_built-2.ensures.built c.in_ok-check_qubits.ensures.same fits c.in_ok-verdict.verdict c.in_ok-verdict.ensures.verdict
+    (g.K.Sink.written c.args.out.now) (g.K.Sink.written c.send_verdict.new.out) (sym said.0 ∙ said.1) c.in_ok-send_verdict.ensures.ok))
+
+pub returns-clause-done : goal.returns-clause-done
+returns-clause-done g c =
+    let u : Circuit = c.in_ok-u.u in
+    let v : Circuit = c.in_ok-v.v in
+    let fits : AllStepsFit c.args.rules.now.width u.qubits (steps_of u.gates v.gates) =
+    subst (λ (w : ℕ). AllStepsFit w u.qubits (steps_of u.gates v.gates)) c.width.ensures.value c.in_ok-verdict.ensures.fits in
+    eq_done c.args.rules.now c.args.one.now c.args.two.now c.in_ok-u.u c.in_ok-u.ensures.reads c.in_ok-v.v c.in_ok-v.ensures.reads c.in_ok-check_built.ensures.built c.in_ok-check_built-2.ensures.built c.in_ok-check_qubits.ensures.same fits c.in_ok-verdict.verdict c.in_ok-verdict.ensures.verdict
+    (g.K.Sink.written c.args.out.now) (g.K.Sink.written c.send_verdict.new.out) c.in_ok-told.ensures.done c.in_ok-send_verdict.ensures.ok

@@ -1,0 +1,87 @@
+//! `eq`: whether two circuits are the same up to a scalar.
+ghost use Rattle.std.specs.Prelude.{◌≡◌, ◌≢◌, ◌≤◌, length, IfErr, OnOk, OnErr, IsErrOf};
+ghost use Rattle.outside.specs.Outside.{Rose};
+ghost use Rattle.outside.specs.Bytes.{Added, AddedSome};
+ghost use Rattle.phases.specs.Phases.{StopsWhere};
+ghost use Rattle.amp_printer.specs.Verdicts.{IsShort, verdict_text};
+ghost use Rattle.sliq_engine.specs.declared.cause.Cause.TheVariants.{QubitsDiffer};
+ghost use Rattle.sliq_engine.specs.Eq.{Compares, told_by};
+ghost use Rattle.sliq_engine.specs.Ending.{MayEnd, MayStopBy};
+
+use crate::cause::Cause;
+use crate::output::SendStop;
+use crate::reading::read_circuit;
+use crate::simulation::check_built;
+use amp_dense::Rules;
+use amp_printer::{Verdict, verdict_text};
+use dense_matrix::compare;
+use gate_set::Circuit;
+use outside::{Sink, write_all};
+use std::alloc::Global;
+
+/// The most qubits of circuits that are compared.
+const MATRIX_QUBITS: u8 = 6;
+
+/// Carries out `eq` on the texts of its files. Nothing is written before the last step. The answer is Ok for Done alone, so Differs is an
+/// error here, though the whole output was written.
+pub fn eq<K: Sink>(
+    alloc: Global,
+    out: &mut K,
+    one: &[u8],
+    two: &[u8],
+    rules: &Rules,
+) -> Result<(), Cause>
+    requires first { length one.now ≤ 16777216 }
+    requires second { length two.now ≤ 16777216 }
+    ensures done { OnOk result (MayEnd (Compares rules.now one.now two.now) Cause.Done (K.written out.old) (K.written out.new)) }
+    ensures stop { IfErr result (λ cause. MayEnd (Compares rules.now one.now two.now) cause (K.written out.old) (K.written out.new)) }
+    ensures fault { IsErrOf result Cause.WriteFault → Rose (K.faults out.old) (K.faults out.new) }
+    ensures counts { K.faults out.old ≤ K.faults out.new }
+{
+    let u = read_circuit(alloc, 1, one)?;
+    let v = read_circuit(alloc, 2, two)?;
+    check_built(&u, MATRIX_QUBITS, 1)?;
+    check_built(&v, MATRIX_QUBITS, 2)?;
+    check_qubits(&u, &v)?;
+    let verdict = compare(alloc, &u, &v, rules.width())?;
+    send_verdict(out, &verdict)?;
+    told(&verdict)?;
+    Ok(())
+}
+
+// Stops where the two circuits have different numbers of qubits.
+fn check_qubits(u: &Circuit, v: &Circuit) -> Result<(), Cause>
+    ensures same { OnOk result (u.now.qubits ≡ v.now.qubits) }
+    ensures stop { IfErr result (MayStopBy (StopsWhere (u.now.qubits ≢ v.now.qubits) (QubitsDiffer u.now.qubits v.now.qubits))) }
+{
+    let first = u.qubits();
+    let second = v.qubits();
+    if first != second {
+        return Err(Cause::QubitsDiffer { first, second });
+    }
+    Ok(())
+}
+
+// Writes the lines of a verdict.
+fn send_verdict<K: Sink>(out: &mut K, verdict: &Verdict) -> Result<(), SendStop>
+    requires { IsShort verdict.now }
+    ensures ok { OnOk result (Added (K.written out.old) (K.written out.new) (verdict_text verdict.now)) }
+    ensures err { OnErr result (AddedSome (K.written out.old) (K.written out.new) (verdict_text verdict.now)) }
+    ensures fault { OnErr result (Rose (K.faults out.old) (K.faults out.new)) }
+    ensures counts { K.faults out.old ≤ K.faults out.new }
+{
+    let lines = verdict_text(verdict);
+    write_all(out, lines.as_bytes())?;
+    Ok(())
+}
+
+// The cause of a run that has written this verdict, where it isn't Done.
+fn told(verdict: &Verdict) -> Result<(), Cause>
+    ensures done { OnOk result (told_by verdict.now ≡ Cause.Done) }
+    ensures differs { IfErr result (λ cause. (cause ≡ told_by verdict.now) × (cause ≡ Cause.Differs)) }
+{
+    match verdict {
+        Verdict::Scalar(..) => Ok(()),
+        Verdict::Differs { .. } => Err(Cause::Differs),
+    }
+}
