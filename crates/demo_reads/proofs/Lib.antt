@@ -1,0 +1,12 @@
+pub mod Accepting
+pub mod Acting
+pub mod Cutting
+pub mod Fronts
+pub mod Lines
+pub mod Parting
+pub mod Pieces
+pub mod Reading
+pub mod Says
+pub mod Shortness
+pub mod Spelled
+pub mod Whole
