@@ -16,5 +16,6 @@ pub not_refused : (e : ReadStop) (r : Refusal) (c : Circuit) → e ≡ Refused r
 not_refused (Refused s) r c is says = absurd (cc)
 not_refused OutOfMemory r c is says = absurd (cc)
 
+-- a circuit is no refusal
 pub apart : (c : Circuit) (number : ℕ) (why : Why) → circuit c ≡ refusal number why → ⊥
 apart c number why e = absurd (cc)

@@ -2,22 +2,25 @@
 use Rattle.std.proofs.Common.{ℕ, List, [], get_or}
 use Rattle.phases.specs.Phases.{HasOneEnd, HasSomeEnd}
 use Rattle.amp_dense.specs.Rules.{Settings}
-use Rattle.sliq_engine.specs.declared.words.Task.{Task}
-use Rattle.sliq_engine.specs.declared.words.Task.TheVariants as task
+use Rattle.sliq_words.specs.declared.reading.Task.{Task}
+use Rattle.sliq_words.specs.declared.reading.Task.TheVariants as task
 use Rattle.sliq_engine.specs.Commands.{CarriesOut}
 use Rattle.sliq_engine.specs.Laws.{IsSure}
 use Rattle.sliq_engine.proofs.SimLemmas.{one_sims, some_sims}
 use Rattle.sliq_engine.proofs.EqLemmas.{one_compares, some_compares}
 use Rattle.sliq_engine.proofs.ProbLemmas.{one_weighs, some_weighs}
+use Rattle.sliq_engine.proofs.DemoLemmas.{one_demonstrates, some_demonstrates}
 
 -- at most one end, command by command
 pub one_end : (it : Task) (rules : Settings) (texts : List (List ℕ)) → HasOneEnd IsSure (CarriesOut it rules texts)
-one_end task.Sim rules texts = one_sims rules (get_or texts 0 [])
+one_end (task.Sim bits) rules texts = one_sims bits rules (get_or texts 0 [])
 one_end task.Prob rules texts = one_weighs rules (get_or texts 0 [])
 one_end task.Eq rules texts = one_compares rules (get_or texts 0 []) (get_or texts 1 [])
+one_end (task.Demo qubits gates seed) rules texts = one_demonstrates rules qubits gates seed
 
 -- some end, command by command
 pub some_end : (it : Task) (rules : Settings) (texts : List (List ℕ)) → HasSomeEnd IsSure (CarriesOut it rules texts)
-some_end task.Sim rules texts = some_sims rules (get_or texts 0 [])
+some_end (task.Sim bits) rules texts = some_sims bits rules (get_or texts 0 [])
 some_end task.Prob rules texts = some_weighs rules (get_or texts 0 [])
 some_end task.Eq rules texts = some_compares rules (get_or texts 0 []) (get_or texts 1 [])
+some_end (task.Demo qubits gates seed) rules texts = some_demonstrates rules qubits gates seed

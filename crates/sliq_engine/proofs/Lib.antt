@@ -10,3 +10,5 @@ mod CommandLemmas
 mod TakingLemmas
 mod RunLemmas
 mod OneRun
+mod SummaryLemmas
+mod DemoLemmas

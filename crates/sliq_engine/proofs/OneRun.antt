@@ -6,7 +6,7 @@ use Rattle.phases.specs.Phases.{◌>>=◌, HandsOn, OnStop, Agree}
 use Rattle.phases.proofs.Ends.{agree_after, one_hands_on}
 use Rattle.sliq_engine.specs.declared.cause.Cause.{Cause}
 use Rattle.sliq_engine.specs.declared.cause.Cause.TheVariants.{TooLong}
-use Rattle.sliq_engine.specs.Asked.{Asked, asked_of}
+use Rattle.sliq_words.specs.Asked.{Request, asked_of}
 use Rattle.sliq_engine.specs.Taking.{TakesFile, Takes}
 use Rattle.sliq_engine.specs.Comes.{Asks, Comes}
 use Rattle.sliq_engine.specs.Laws.{IsSure}
@@ -75,7 +75,7 @@ module _ {S : Type 0} (shelf : Shelf S) where
   one_asking words old new other (Err c) (Err d) p q s t = ap Err (p.2 ∙ sym q.2)
 
   -- a run comes to one end
-  pub one_run : (words : List (List ℕ)) (old new other : S) → ((asked : Asked) → asked_of words ≡ Some asked → AreTold asked.files old)
+  pub one_run : (words : List (List ℕ)) (old new other : S) → ((asked : Request) → asked_of words ≡ Some asked → AreTold asked.files old)
       → Agree IsSure (Comes shelf words old new) (Comes shelf words old other)
   one_run words old new other told =
       agree_after IsSure (Asks words old new) (Asks words old other) _ _ (one_asking words old new other)

@@ -1,10 +1,8 @@
 -- How a run ends, exit by exit.
-use Rattle.std.proofs.Common.{◌≡◌, ℕ, List, Option, Some, None, Ok, refl, subst}
-use Rattle.amp_dense.specs.Rules.{Settings, usual_rules}
+use Rattle.std.proofs.Common.{◌≡◌, inl, ℕ, List, Option, Some, None, Ok, refl}
 use Rattle.sliq_engine.specs.declared.cause.Cause.{Cause}
-use Rattle.sliq_engine.specs.declared.cause.Cause.TheVariants.{BadWords}
-use Rattle.sliq_engine.specs.declared.words.Task.{Task}
-use Rattle.sliq_engine.specs.Asked.{asked_of, by_usual_rules}
+use Rattle.sliq_engine.specs.declared.cause.Cause.TheVariants.{BadWords, OutOfMemory}
+use Rattle.sliq_words.specs.Asked.{Request, asked_of}
 use Rattle.outside.specs.Outside.{Shelf}
 use Rattle.sliq_engine.specs.Taking.{Takes}
 use Rattle.sliq_engine.specs.Commands.{CarriesOut}
@@ -17,15 +15,17 @@ pub run_bad : {S : Type 0} (shelf : Shelf S) (words : List (List ℕ)) (old : S)
     → MayEnd (Comes shelf words old old) BadWords out out
 run_bad shelf words old out none = ends_first (Asks words old old) _ BadWords out (none, refl, refl)
 
-module _ {S : Type 0} (shelf : Shelf S) (task : Task) (words files : List (List ℕ)) (old new : S) (asks : asked_of words ≡ Some (by_usual_rules task files)) where
+-- memory is wanted for the words
+pub run_starved : {S : Type 0} (shelf : Shelf S) (words : List (List ℕ)) (old : S) (out : Option (List ℕ)) → MayEnd (Comes shelf words old old) OutOfMemory out out
+run_starved shelf words old out = inl refl
+
+module _ {S : Type 0} (shelf : Shelf S) (words : List (List ℕ)) (asked : Request) (old new : S) (asks : asked_of words ≡ Some asked) where
   -- a file can't be taken
-  pub run_untaken : (cause : Cause) (out : Option (List ℕ)) → MayStopBy (Takes shelf 1 files old new) cause → MayEnd (Comes shelf words old new) cause out out
-  run_untaken cause out h = ends_after (Asks words old new) _ (by_usual_rules task files) cause out out asks (ends_first (Takes shelf 1 files old new) _ cause out h)
+  pub run_untaken : (cause : Cause) (out : Option (List ℕ)) → MayStopBy (Takes shelf 1 asked.files old new) cause → MayEnd (Comes shelf words old new) cause out out
+  run_untaken cause out h = ends_after (Asks words old new) _ asked cause out out asks (ends_first (Takes shelf 1 asked.files old new) _ cause out h)
 
   -- the files are taken, and the command ends so
-  pub run_taken : (texts : List (List ℕ)) (rules : Settings) (cause : Cause) (before now : Option (List ℕ)) → Takes shelf 1 files old new (Ok texts) → rules ≡ usual_rules
-      → MayEnd (CarriesOut task rules texts) cause before now → MayEnd (Comes shelf words old new) cause before now
-  run_taken texts rules cause before now takes usual h =
-      ends_after (Asks words old new) _ (by_usual_rules task files) cause before now asks
-      (ends_after (Takes shelf 1 files old new) _ texts cause before now takes
-      (subst (λ (r : Settings). MayEnd (CarriesOut task r texts) cause before now) usual h))
+  pub run_taken : (texts : List (List ℕ)) (cause : Cause) (before now : Option (List ℕ)) → Takes shelf 1 asked.files old new (Ok texts)
+      → MayEnd (CarriesOut asked.task asked.rules texts) cause before now → MayEnd (Comes shelf words old new) cause before now
+  run_taken texts cause before now takes h =
+      ends_after (Asks words old new) _ asked cause before now asks (ends_after (Takes shelf 1 asked.files old new) _ texts cause before now takes h)

@@ -1,10 +1,10 @@
 -- The phases that commands are made of: each has one end, and its stops are those that are told.
-use Rattle.std.proofs.Common.{◌≡◌, inl, inr, ℕ, ◌<◌, List, Bool, Ok, Err, refl, sym, ◌∙◌, ap, arith}
+use Rattle.std.proofs.Common.{◌≡◌, ◌≢◌, inl, inr, ℕ, ◌<◌, List, Bool, Ok, Err, refl, sym, ◌∙◌, ap, arith}
 use Rattle.std.proofs.Math.Path.{ap₂}
-use Rattle.std.proofs.lemmas.Bool.{cases_lt}
+use Rattle.std.proofs.lemmas.Bool.{cases_lt, cases_eq}
 use Rattle.gate_set.specs.declared.gate.Gate.{Gate}
 use Rattle.phases.specs.Phases.{HasOneEnd, HasSomeEnd, StopsWhere}
-use Rattle.phases.proofs.Ends.{one_told, some_told, some_stops_where}
+use Rattle.phases.proofs.Ends.{one_told, some_told, one_stops_where, some_stops_where}
 use Rattle.amp_dense.specs.Rules.{Settings}
 use Rattle.amp_dense.specs.declared.stop.Stop.{Stop}
 use Rattle.amp_dense.specs.declared.stop.Stop.TheVariants as stops
@@ -15,8 +15,8 @@ use Rattle.qasm_reader.specs.declared.reason.Refusal.{Refusal}
 use Rattle.qasm_reader.specs.Reading.{Reading, ReadsAs, circuit, refusal}
 use Rattle.qasm_reader.proofs.OneReading.{one_reading}
 use Rattle.qasm_reader.proofs.EveryReading.{every_reading}
-use Rattle.sliq_engine.specs.declared.cause.Cause.TheVariants.{Refused, Unbuilt}
-use Rattle.sliq_engine.specs.Steps.{Reads, cause_of, Simulates}
+use Rattle.sliq_engine.specs.declared.cause.Cause.TheVariants.{Refused, Unbuilt, QubitsDiffer}
+use Rattle.sliq_engine.specs.Steps.{Reads, SameQubits, cause_of, Simulates}
 use Rattle.sliq_engine.specs.Ending.{MayStopBy}
 use Rattle.sliq_engine.specs.Laws.{IsSure}
 
@@ -55,6 +55,14 @@ pub simulation_stops : (policy : Policy) (rules : Settings) (input : List Bool) 
 simulation_stops policy rules input gates (stops.Width gate) h = (stops.Width gate, h, refl)
 simulation_stops policy rules input gates (stops.Nodes gate order held) h = tt
 simulation_stops policy rules input gates stops.OutOfMemory h = tt
+
+pub one_same : (first second : ℕ) → HasOneEnd IsSure (SameQubits first second)
+one_same first second = one_stops_where IsSure (first ≢ second) (QubitsDiffer first second)
+
+-- two numbers of qubits are the same or they differ
+pub some_same : (first second : ℕ) → HasSomeEnd IsSure (SameQubits first second)
+some_same first second =
+    some_stops_where IsSure (first ≢ second) (QubitsDiffer first second) tt (elim (cases_eq first second) [ inl e ↦ inr (λ other. other e) | inr other ↦ inl other ])
 
 -- a circuit is built or it isn't
 pub some_built : (most n file : ℕ) → HasSomeEnd IsSure (StopsWhere (most < n) (Unbuilt file))

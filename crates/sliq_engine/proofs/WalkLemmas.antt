@@ -4,7 +4,6 @@ use Rattle.std.proofs.Math.Path.{ap₂}
 use Rattle.std.proofs.Math.Seq.{take-length}
 use Rattle.std.specs.Option.{ForSome}
 use Rattle.std.specs.List.{count_by}
-use Rattle.std.proofs.lemmas.List.{length-replicate}
 use Rattle.std.proofs.lemmas.List.Sums.{fold_more}
 use Rattle.std.proofs.lemmas.Bool.Decides.{same_from_decides}
 use Rattle.ring_omega.specs.declared.quad.Quad.{Quad}
@@ -28,7 +27,6 @@ use Rattle.amp_dense.specs.Rules.{Settings}
 use Rattle.amp_dense.specs.Standing.{Standing, vector, begun}
 use Rattle.amp_dense.proofs.Walking.{GoesBy}
 use Rattle.sliq_engine.specs.Listing.{line_at, listing_of, states_of, vector_output}
-use Rattle.sliq_engine.specs.Steps.{zeros}
 use Rattle.sliq_engine.specs.Sim.{sim_output}
 use Rattle.sliq_engine.proofs.ListingLemmas.{flat_map-same, sum_by-same, lines, lines_more, lines_front, line_at-zero, line_at-other}
 
@@ -74,14 +72,13 @@ vector_output-values n v u k j h =
     ap₂ (λ a b. count_line Qubits n ++ a ++ count_line States b) listing states
 
 -- the output of a circuit, from its working vector
-pub working_output : (m n : ℕ) (rules : Settings) (gates : List Gate) (t : Standing) → m ≡ n → GoesBy (begun (zeros n) rules) gates t
-    → vector_output m (vector t) ≡ sim_output n gates
-working_output m n rules gates t size by =
-    let z = zeros n in
+pub working_output : (m n : ℕ) (z : List Bool) (rules : Settings) (gates : List Gate) (t : Standing) → m ≡ n → length z ≡ n → GoesBy (begun z rules) gates t
+    → vector_output m (vector t) ≡ sim_output n z gates
+working_output m n z rules gates t size input by =
     ap (λ (k : ℕ). vector_output k (vector t)) size
     ∙ ap₂ (λ g x. vector_output n (work g x)) by.accepted by.input
     ∙ vector_output-values n (work gates z).entries (amp gates z) (work gates z).exponent (exponent gates)
-    (λ x long. work-HasValues gates z x (long ∙ sym (length-replicate n false)))
+    (λ x long. work-HasValues gates z x (long ∙ sym input))
 
 -- ---- the walk
 -- the place behind the given list, or the first one
@@ -117,7 +114,7 @@ counted_more n v x long =
     fold_more (λ (m : ℕ) (y : List Bool). m + cond (not (is_zero (v y))) 1 0) 0 (all_lists n) (place_of x) [] within
     ∙ ap (λ y. counted n v (place_of x) + cond (not (is_zero (v y))) 1 0) (get_or-all_lists n x [] long)
 
-nonzero_test : (q : Quad) → q ≢ zero_quad → is_zero q ≡ false
+pub nonzero_test : (q : Quad) → q ≢ zero_quad → is_zero q ≡ false
 nonzero_test q differs = chosen (is_zero q) refl
   where
     chosen : (b : Bool) → is_zero q ≡ b → b ≡ false
@@ -179,7 +176,7 @@ over_run n v F over from to less most zeros =
     let e : from + (to - from) ≡ to = omega arith in
     skipped n v F over from (to - from) (omega arith) (λ x l a b. zeros x l a (omega arith)) ∙ ap F e
 
-found_place : {X : Type 0} (n : ℕ) (v : List Bool → Quad) (F : ℕ → X) → ((x : List Bool) → length x ≡ n → v x ≡ zero_quad → F (place_of x) ≡ F (place_of x + 1))
+pub found_place : {X : Type 0} (n : ℕ) (v : List Bool → Quad) (F : ℕ → X) → ((x : List Bool) → length x ≡ n → v x ≡ zero_quad → F (place_of x) ≡ F (place_of x + 1))
     → (given next : Option (List Bool)) → IsFound n v given next → F (place_after given) ≡ F (place_next n next)
 found_place n v F over given None f =
     over_run n v F over (place_after given) (2 ^ n) (after_within n given f.alike) (omega arith)

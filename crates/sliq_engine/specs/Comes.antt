@@ -4,13 +4,13 @@ use Rattle.outside.specs.Outside.{Shelf}
 use Rattle.phases.specs.Phases.{Phase, ◌>>=◌}
 use Rattle.sliq_engine.specs.declared.cause.Cause.{Cause}
 use Rattle.sliq_engine.specs.declared.cause.Cause.TheVariants.{BadWords}
-use Rattle.sliq_engine.specs.Asked.{Asked, asked_of}
+use Rattle.sliq_words.specs.Asked.{Request, asked_of}
 use Rattle.sliq_engine.specs.Taking.{Takes}
 use Rattle.sliq_engine.specs.Steps.{Output}
 use Rattle.sliq_engine.specs.Commands.{CarriesOut}
 
 -- the words ask for something; else the shelf stays as it is
-abbrev pub Asks : {S : Type 0} → List (List ℕ) → S → S → Phase Asked Cause
+abbrev pub Asks : {S : Type 0} → List (List ℕ) → S → S → Phase Request Cause
 Asks words old new (Ok asked) = asked_of words ≡ Some asked
 Asks words old new (Err cause) = (asked_of words ≡ None) × (new ≡ old) × (cause ≡ BadWords)
 

@@ -1,4 +1,3 @@
-pub mod Asked
 pub mod Refusals
 pub mod Listing
 pub mod Steps
@@ -6,6 +5,7 @@ pub mod Taking
 pub mod Sim
 pub mod Eq
 pub mod Prob
+pub mod Demo
 pub mod Commands
 pub mod Comes
 pub mod Ending

@@ -1,5 +1,5 @@
 -- `sim`.
-use Rattle.std.specs.Prelude.{ℕ, ◌<◌, List}
+use Rattle.std.specs.Prelude.{ℕ, ◌<◌, Bool, List, length, Option, Some, None}
 use Rattle.gate_set.specs.declared.gate.Gate.{Gate}
 use Rattle.circuit_model.specs.Product.{amp, exponent}
 use Rattle.circuit_model.specs.Working.{scaled}
@@ -9,15 +9,21 @@ use Rattle.phases.specs.Phases.{Phase, ◌>>=◌, ◌>>◌, StopsWhere}
 use Rattle.sliq_engine.specs.declared.cause.Cause.{Cause}
 use Rattle.sliq_engine.specs.declared.cause.Cause.TheVariants.{Done, Unbuilt}
 use Rattle.sliq_engine.specs.Listing.{vector_output}
-use Rattle.sliq_engine.specs.Steps.{Reads, zeros, Simulates, Output, Writes}
+use Rattle.sliq_engine.specs.Steps.{Reads, SameQubits, zeros, Simulates, Output, Writes}
 
--- what is written of a circuit: the product of its gates on the basis state of all zeros
-abbrev pub sim_output : ℕ → List Gate → List ℕ
-sim_output n gates = vector_output n (scaled (amp gates (zeros n)) (exponent gates))
+-- the basis state at the start: the bits that are given, or all zeros
+abbrev pub input_for : Option (List Bool) → ℕ → List Bool
+input_for None n = zeros n
+input_for (Some x) n = x
 
-abbrev pub Sims : Settings → List ℕ → Phase Output Cause
-Sims rules text = do
+-- what is written of a circuit: the product of its gates on a basis state
+abbrev pub sim_output : ℕ → List Bool → List Gate → List ℕ
+sim_output n input gates = vector_output n (scaled (amp gates input) (exponent gates))
+
+abbrev pub Sims : Option (List Bool) → Settings → List ℕ → Phase Output Cause
+Sims bits rules text = do
   c ← Reads 1 text
   StopsWhere (12 < c.qubits) (Unbuilt 1)
-  Simulates dense_policy rules (zeros c.qubits) c.gates
-  Writes Done (sim_output c.qubits c.gates)
+  SameQubits c.qubits (length (input_for bits c.qubits))
+  Simulates dense_policy rules (input_for bits c.qubits) c.gates
+  Writes Done (sim_output c.qubits (input_for bits c.qubits) c.gates)

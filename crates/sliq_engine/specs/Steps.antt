@@ -1,5 +1,5 @@
 -- The phases that commands are made of.
-use Rattle.std.specs.Prelude.{◌≡◌, ℕ, Bool, false, replicate, List, Ok, Err}
+use Rattle.std.specs.Prelude.{◌≡◌, ◌≢◌, ℕ, Bool, false, replicate, List, Ok, Err}
 use Rattle.gate_set.specs.declared.gate.Gate.{Gate}
 use Rattle.gate_set.specs.Circuits.{Circuit}
 use Rattle.amp_dense.specs.Rules.{Settings}
@@ -8,14 +8,18 @@ use Rattle.amp_dense.specs.declared.stop.Stop.{Stop}
 use Rattle.amp_dense.specs.declared.stop.Stop.TheVariants as stops
 use Rattle.qasm_reader.specs.declared.reason.Refusal.{Refusal}
 use Rattle.qasm_reader.specs.Reading.{ReadsAs, circuit, refusal}
-use Rattle.phases.specs.Phases.{Phase, HandsOn, Told}
+use Rattle.phases.specs.Phases.{Phase, HandsOn, StopsWhere, Told}
 use Rattle.sliq_engine.specs.declared.cause.Cause.{Cause}
-use Rattle.sliq_engine.specs.declared.cause.Cause.TheVariants.{Refused, Width, OutOfMemory}
+use Rattle.sliq_engine.specs.declared.cause.Cause.TheVariants.{Refused, QubitsDiffer, Width, OutOfMemory}
 
 -- the text of the file of this number reads as a circuit
 abbrev pub Reads : ℕ → List ℕ → Phase Circuit Cause
 Reads file text (Ok c) = ReadsAs text 64 (circuit c)
 Reads file text (Err cause) = (r : Refusal) × ReadsAs text 64 (refusal r.statement r.why) × (cause ≡ Refused file r)
+
+-- the two numbers of qubits are the same
+abbrev pub SameQubits : ℕ → ℕ → Phase (Unit {0}) Cause
+SameQubits first second = StopsWhere (first ≢ second) (QubitsDiffer first second)
 
 -- the basis state of all zeros
 abbrev pub zeros : ℕ → List Bool

@@ -25,9 +25,9 @@ pub enum Cause {
     Refused { file: u8, refusal: Refusal },
     /// This file's circuit has more qubits than the engine is built for yet: 12 where it is simulated, 6 where it is compared.
     Unbuilt { file: u8 },
-    /// The two circuits have different numbers of qubits.
+    /// The numbers of qubits of two circuits differ, or those of a circuit and of its input.
     QubitsDiffer { first: u8, second: u8 },
-    /// At this gate of the circuit, or step of the comparison, counted from 1, a coefficient was wider than 128 bits.
+    /// At this gate of the circuit, or step of the comparison, counted from 1, a coefficient was wider than the rules allow.
     Width { step: u32 },
     /// The weight of all states has a part without √2 of 2^127 or more.
     WeightTooWide,

@@ -1,34 +1,37 @@
 //! Laws of the top call's definitions. Each call does nothing: its contract is the law.
-ghost use Rattle.std.specs.Prelude.{◌≡◌, ◌↔◌, ◌∷◌, [], List, ℕ, codes, Ok, Some, IsSome};
+ghost use Rattle.std.specs.Prelude.{◌≡◌, ◌↔◌, ◌≤◌, ◌∷◌, [], List, ℕ, codes, Ok, Err, Some, IsSome};
 ghost use Rattle.gate_set.specs.Circuits.{Circuit, IsCircuit};
 ghost use Rattle.comparison.specs.Scalars.{AreSame};
+ghost use Rattle.amp_dense.specs.Rules.{Settings};
+ghost use Rattle.qasm_reader.specs.declared.reason.Refusal.{Refusal};
 ghost use Rattle.std.specs.List.{AllByRecursion};
 ghost use Rattle.outside.specs.Memory.{Shelved, text_of, memory};
 ghost use Rattle.sliq_engine.specs.Comes.{Comes};
 ghost use Rattle.phases.specs.Phases.{Agree, HasOneEnd, HasSomeEnd};
-ghost use Rattle.sliq_engine.specs.Asked.{Asked, asked_of};
+ghost use Rattle.sliq_words.specs.Asked.{Request, asked_of};
 ghost use Rattle.sliq_engine.specs.Commands.{CarriesOut};
 ghost use Rattle.sliq_engine.specs.Laws.{IsSure};
-ghost use Rattle.sliq_engine.specs.Steps.{Output};
+ghost use Rattle.sliq_engine.specs.Steps.{Output, zeros};
 ghost use Rattle.sliq_engine.specs.Sim.{sim_output};
 ghost use Rattle.sliq_engine.specs.Eq.{Says};
+ghost use Rattle.sliq_engine.specs.Demo.{demo_output, Demonstrates};
 
 use crate::cause::Cause;
 use gate_set::Kind;
 
 /// Whatever is asked for, on whatever texts, comes to one output at most, or to one cause.
 pub fn one_end()
-    ensures { (asked : Asked) (texts : List (List ℕ)) → HasOneEnd IsSure (CarriesOut asked.task asked.rules texts) }
+    ensures { (asked : Request) (texts : List (List ℕ)) → HasOneEnd IsSure (CarriesOut asked.task asked.rules texts) }
 {}
 
 /// And it comes to some output, or to some cause.
 pub fn some_end()
-    ensures { (asked : Asked) (texts : List (List ℕ)) → HasSomeEnd IsSure (CarriesOut asked.task asked.rules texts) }
+    ensures { (asked : Request) (texts : List (List ℕ)) → HasSomeEnd IsSure (CarriesOut asked.task asked.rules texts) }
 {}
 
 /// Where a shelf in memory has the files of the words, a run on it comes to one output at most, or to one cause, but for faults of the shelf.
 pub fn one_run()
-    ensures { (words : List (List ℕ)) (old new other : Shelved) → ((asked : Asked) → asked_of words ≡ Some asked → AllByRecursion (λ name. IsSome (text_of old name)) asked.files)
+    ensures { (words : List (List ℕ)) (old new other : Shelved) → ((asked : Request) → asked_of words ≡ Some asked → AllByRecursion (λ name. IsSome (text_of old name)) asked.files)
         → Agree IsSure (Comes memory words old new) (Comes memory words old other) }
 {}
 
@@ -42,15 +45,22 @@ pub fn eq_exactly()
     let _ = Cause::Differs;
 }
 
-/// What `sim` writes of small circuits: a Bell pair, no gate, H twice, and H T H.
+/// No `demo` comes to a refusal.
+pub fn demo_is_never_refused()
+    ensures { (rules : Settings) (qubits gates seed : ℕ) → 1 ≤ qubits → qubits ≤ 64 → gates ≤ 500000 → (file : ℕ) (r : Refusal) → ¬ Demonstrates rules qubits gates seed (Err (Cause.Refused file r)) }
+{}
+
+/// What `sim` writes of small circuits: a Bell pair, no gate, H twice, and H T H; and what `demo` writes of H and the inverse of T.
 pub fn small_outputs()
-    ensures bell_pair { sim_output 2 (record { kind = Kind.H; on = 0 ∷ [] } ∷ record { kind = Kind.Cx; on = 0 ∷ 1 ∷ [] } ∷ [])
+    ensures bell_pair { sim_output 2 (zeros 2) (record { kind = Kind.H; on = 0 ∷ [] } ∷ record { kind = Kind.Cx; on = 0 ∷ 1 ∷ [] } ∷ [])
         ≡ codes "qubits 2\n|00> (0,0,0,1)/sqrt2^1\n|11> (0,0,0,1)/sqrt2^1\nstates 2\n" }
-    ensures no_gates { sim_output 1 [] ≡ codes "qubits 1\n|0> (0,0,0,1)/sqrt2^0\nstates 1\n" }
-    ensures h_twice { sim_output 1 (record { kind = Kind.H; on = 0 ∷ [] } ∷ record { kind = Kind.H; on = 0 ∷ [] } ∷ [])
+    ensures no_gates { sim_output 1 (zeros 1) [] ≡ codes "qubits 1\n|0> (0,0,0,1)/sqrt2^0\nstates 1\n" }
+    ensures h_twice { sim_output 1 (zeros 1) (record { kind = Kind.H; on = 0 ∷ [] } ∷ record { kind = Kind.H; on = 0 ∷ [] } ∷ [])
         ≡ codes "qubits 1\n|0> (0,0,0,1)/sqrt2^0\nstates 1\n" }
-    ensures h_t_h { sim_output 1 (record { kind = Kind.H; on = 0 ∷ [] } ∷ record { kind = Kind.T; on = 0 ∷ [] } ∷ record { kind = Kind.H; on = 0 ∷ [] } ∷ [])
+    ensures h_t_h { sim_output 1 (zeros 1) (record { kind = Kind.H; on = 0 ∷ [] } ∷ record { kind = Kind.T; on = 0 ∷ [] } ∷ record { kind = Kind.H; on = 0 ∷ [] } ∷ [])
         ≡ codes "qubits 1\n|0> (0,0,1,1)/sqrt2^2\n|1> (0,0,-1,1)/sqrt2^2\nstates 2\n" }
+    ensures summary { demo_output 1 (record { kind = Kind.H; on = 0 ∷ [] } ∷ record { kind = Kind.Tdg; on = 0 ∷ [] } ∷ [])
+        ≡ codes "qubits 1\ngates 2\nexponent 1\nstates 2\nfirst |0> (0,0,0,1)/sqrt2^1\nlast |1> (-1,0,0,0)/sqrt2^1\n" }
 {
     // The clauses name kinds; an import wants a use in code too.
     let _ = Kind::H;

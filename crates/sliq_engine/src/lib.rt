@@ -2,6 +2,7 @@
 #![tactic(auto)]
 
 mod cause;
+mod demo;
 mod eq;
 mod laws;
 mod message;
@@ -12,16 +13,18 @@ mod prob;
 mod reading;
 mod sim;
 mod simulation;
+mod summary;
 mod taking;
 mod top;
-mod words;
 
 pub use cause::{Cause, Ended};
-pub use laws::{eq_exactly, one_end, one_run, small_outputs, some_end};
+pub use laws::{demo_is_never_refused, eq_exactly, one_end, one_run, small_outputs, some_end};
 pub use top::{end, run};
 
 #[cfg(test)]
 mod eq_tests;
+#[cfg(test)]
+mod option_tests;
 #[cfg(test)]
 mod prob_tests;
 #[cfg(test)]

@@ -2,7 +2,7 @@
 ghost use Rattle.std.specs.Prelude.{◌≡◌, ◌<◌, ◌≤◌, length, IfOk, IfErr, OnOk, Ok};
 ghost use Rattle.phases.specs.Phases.{StopsWhere};
 ghost use Rattle.sliq_engine.specs.declared.cause.Cause.TheVariants.{Unbuilt};
-ghost use Rattle.sliq_engine.specs.Steps.{Simulates, zeros};
+ghost use Rattle.sliq_engine.specs.Steps.{SameQubits, Simulates, zeros};
 ghost use Rattle.sliq_engine.specs.Ending.{MayStopBy};
 
 use crate::cause::Cause;
@@ -18,6 +18,17 @@ pub fn check_built(circuit: &Circuit, most: u8, file: u8) -> Result<(), Cause>
 {
     if circuit.qubits() > most {
         return Err(Cause::Unbuilt { file });
+    }
+    Ok(())
+}
+
+/// Stops where two numbers of qubits differ.
+pub fn check_qubits(first: u8, second: u8) -> Result<(), Cause>
+    ensures same { OnOk result (first ≡ second) }
+    ensures stop { IfErr result (MayStopBy (SameQubits first second)) }
+{
+    if first != second {
+        return Err(Cause::QubitsDiffer { first, second });
     }
     Ok(())
 }

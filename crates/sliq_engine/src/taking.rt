@@ -1,5 +1,5 @@
 //! The texts of a run's files, taken from the shelf.
-ghost use Rattle.std.specs.Prelude.{◌≡◌, ◌≤◌, IfOk, IfErr, Ok, All, length, vec_len, map, string_bytes};
+ghost use Rattle.std.specs.Prelude.{◌≡◌, ◌≤◌, [], IfOk, IfErr, Ok, All, length, vec_len, map, string_bytes};
 ghost use Rattle.outside.specs.Outside.{SameTexts, NoneFalls};
 ghost use Rattle.sliq_engine.specs.Taking.{TakesFile, Takes};
 ghost use Rattle.sliq_engine.specs.Ending.{MayStopBy};
@@ -20,6 +20,7 @@ pub fn take_all<S: Shelf>(
     ensures stop { IfErr result (MayStopBy (Takes (record { text = S.text; faults = S.faults; ready = S.ready; taken = S.taken; ended = S.ended }) 1 (map string_bytes files.now) shelf.old shelf.new)) }
     ensures count { IfOk result (λ texts. vec_len texts ≡ length files.now) }
     ensures short { IfOk result (λ texts. All (λ text. length text ≤ 16777216) (bytes_of texts.items)) }
+    ensures untouched { files.now ≡ [] → shelf.new ≡ shelf.old }
     ensures texts { SameTexts (S.text shelf.old) (S.text shelf.new) }
     ensures counts { NoneFalls (S.faults shelf.old) (S.faults shelf.new) }
 {

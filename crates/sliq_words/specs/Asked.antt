@@ -1,5 +1,5 @@
 -- What the words of a run ask for.
-use Rattle.std.specs.Prelude.{ℕ, ◌==◌, Bool, cond, List, [], ◌∷◌, map, length, codes, string_bytes, Option, Some, None, option_map, option_and_then}
+use Rattle.std.specs.Prelude.{◌≡◌, ℕ, ◌≤◌, ◌==◌, Bool, cond, List, [], ◌∷◌, map, length, codes, string_bytes, Option, Some, None, option_map, option_and_then}
 use Rattle.std.specs.Option.{option_map_or}
 use Rattle.amp_dense.specs.Rules.{Settings}
 use Rattle.clap.specs.Words.{Row, Text, first_of}
@@ -83,6 +83,29 @@ pub record Request : Type 0 where
 
 abbrev pub request : Task → List Text → Settings → Request
 request t fs r = record { task = t; files = fs; rules = r }
+
+-- how many files a command has
+abbrev pub file_count : Task → ℕ
+file_count (task.Sim bits) = 1
+file_count task.Eq = 2
+file_count task.Prob = 1
+file_count (task.Demo qubits gates seed) = 0
+
+-- the values of a command lie in their ranges
+abbrev pub InRange : Task → Type 0
+InRange (task.Sim (Some bits)) = length bits ≤ 64
+InRange (task.Demo qubits gates seed) = (1 ≤ qubits) × (qubits ≤ 64) × (gates ≤ 500000)
+InRange _ = Unit {0}
+
+-- there are as many files as the command has, and its values lie in their ranges
+pub record IsRequest (r : Request) : Type 0 where
+  pub files : length r.files ≡ file_count r.task
+  pub values : InRange r.task
+
+-- the names of the files of what is asked for, if anything is
+abbrev pub files_of : Option Request → List Text
+files_of None = []
+files_of (Some r) = r.files
 
 -- the same, as `ask` gives it
 abbrev pub request_of : Asked → Request

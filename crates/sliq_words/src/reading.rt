@@ -1,7 +1,7 @@
 //! The words of a run, read as a command.
 ghost use Rattle.std.specs.Prelude.{◌≡◌, ◌≤◌, ◌∷◌, [], IfOk, IfSome, IsErrOf, map, string_bytes, None, Some, Err, option_map};
 ghost use Rattle.clap.specs.Words.{rows_of, found_of};
-ghost use Rattle.sliq_words.specs.Asked.{asked_of, command_in, request_of, request_in, setting_of, rules_in, input_in, demo_in, task_in, file_in, pair_in, files_in, number_word};
+ghost use Rattle.sliq_words.specs.Asked.{asked_of, command_in, request_of, request_in, IsRequest, setting_of, rules_in, input_in, demo_in, task_in, file_in, pair_in, files_in, number_word};
 
 use crate::form::Form;
 use crate::syntax::matches_in;
@@ -13,7 +13,7 @@ use std::alloc::{AllocError, Global};
 use thiserror::Error;
 
 /// A command with its values. `input` is None where `--input` isn't given.
-#[derive(Drop)]
+#[derive(Clone, Copy)]
 pub enum Task {
     Sim { input: Option<Bits> },
     Eq,
@@ -214,6 +214,7 @@ fn read_values(alloc: Global, form: Form, matches: &ArgMatches) -> Result<Asked,
 /// second names no command.
 pub fn ask(alloc: Global, words: &[String]) -> Result<Asked, AskStop>
     ensures reads { IfOk result (λ a. asked_of (map string_bytes words.now) ≡ Some (request_of a)) }
+    ensures sound { IfOk result (λ a. IsRequest (request_of a)) }
     ensures bad { IsErrOf result AskStop.Bad → asked_of (map string_bytes words.now) ≡ None }
     ensures no_command { command_in (map string_bytes words.now) ≡ None → result ≡ Err AskStop.Bad }
 {

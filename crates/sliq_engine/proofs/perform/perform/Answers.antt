@@ -2,9 +2,9 @@ use Rattle.std.proofs.Common.{◌≡◌, ◌<◌, ℕ, List, [], Option, Result,
 use Rattle.std.proofs.lemmas.List.{get_or-map}
 use Rattle.amp_dense.specs.Rules.{Settings}
 use Rattle.sliq_engine.specs.declared.cause.Cause.{Cause}
-use Rattle.sliq_engine.specs.declared.words.Task.{Task}
-use Rattle.sliq_engine.specs.declared.words.Task.TheVariants as task
-use Rattle.sliq_engine.specs.Asked.{file_count}
+use Rattle.sliq_words.specs.declared.reading.Task.{Task}
+use Rattle.sliq_words.specs.declared.reading.Task.TheVariants as task
+use Rattle.sliq_words.specs.Asked.{file_count}
 use Rattle.sliq_engine.specs.Eq.{Compares}
 use Rattle.sliq_engine.specs.Commands.{CarriesOut}
 use Rattle.sliq_engine.specs.Ending.{MayEnd}

@@ -1,4 +1,4 @@
-use Rattle.std.proofs.Common.{rules, ◌≡◌, ◌≤◌, ◌<◌, ◌∷◌, ◌++◌, [], ℕ, List, Err, Vec, Global, length, string_bytes, ◌∙◌, ap, subst}
+use Rattle.std.proofs.Common.{rules, ◌≡◌, ◌≤◌, ◌<◌, ◌∷◌, ◌++◌, [], ℕ, List, Err, Vec, Global, length, string_bytes, ◌∙◌, ap, subst, arith}
 use Rattle.std.proofs.lemmas.List.{map-append}
 use Rattle.std.proofs.lemmas.List.Elements.{All-append, All-cons, All-nil}
 use Rattle.sliq_engine.specs.declared.cause.Cause.{Cause}
@@ -42,6 +42,10 @@ files-preserved g c =
       number = search rules;
       count = search rules;
       short = rw bytes (All-append Short (bytes_of c.files.texts.items) (text.items ∷ []) so_far.short (All-cons Short text.items [] took.short (All-nil Short)));
+      untouched = λ none. absurd (let empty = ap length none in omega (arith, empty, within));
       texts = search rules;
       counts = search rules;
     }
+
+pub returns-in_err-text-clause-untouched : goal.returns-in_err-text-clause-untouched
+returns-in_err-text-clause-untouched g c = λ none. absurd (let within : c.files.name-index < length c.args.files.now = search rules in let empty = ap length none in omega (arith, empty, within))

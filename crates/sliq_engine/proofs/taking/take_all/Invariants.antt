@@ -1,4 +1,4 @@
-use Rattle.std.proofs.Common.{◌≡◌, ◌≤◌, ◌+◌, All, take, length, map, string_bytes, vec_len, Ok}
+use Rattle.std.proofs.Common.{◌≡◌, ◌≤◌, ◌+◌, [], All, take, length, map, string_bytes, vec_len, Ok}
 use Rattle.outside.specs.Outside.{SameTexts, NoneFalls}
 use Rattle.sliq_engine.specs.Taking.{Takes}
 use Rattle.sliq_engine.specs.Private.{bytes_of}
@@ -13,6 +13,7 @@ invariant-files g l =
       number : l.file ≡ l.name-index + 1;
       count : vec_len l.texts ≡ l.name-index;
       short : All (λ text. length text ≤ 16777216) (bytes_of l.texts.items);
+      untouched : l.files ≡ [] → l.shelf ≡ l.fn.shelf;
       texts : SameTexts (s.text l.fn.shelf) (s.text l.shelf);
       counts : NoneFalls (s.faults l.fn.shelf) (s.faults l.shelf);
     }

@@ -1,44 +1,53 @@
-use Rattle.std.proofs.Common.{◌≡◌, ◌≤◌, ℕ, List, Vec, Global, Some, length, map, drop, string_bytes, sym, ◌∙◌, ap, subst, arith}
-use Rattle.std.proofs.lemmas.List.{length-drop}
+use Rattle.std.proofs.Common.{◌≡◌, ℕ, List, Vec, Global, Ok, Err, map, string_bytes, ap, subst}
+use Rattle.sliq_words.specs.Asked.{Request, request_of}
+use Rattle.sliq_engine.specs.declared.cause.Cause.{Cause}
 use Rattle.sliq_engine.specs.declared.cause.Cause.TheVariants.{Done}
-use Rattle.sliq_engine.specs.Asked.{asked_of, by_usual_rules}
+use Rattle.outside.specs.Outside.{Shelf}
+use Rattle.sliq_engine.specs.Taking.{Takes}
 use Rattle.sliq_engine.specs.Commands.{CarriesOut}
-use Rattle.sliq_engine.specs.Ending.{MayEnd}
+use Rattle.sliq_engine.specs.Ending.{MayEnd, MayStopBy}
 use Rattle.sliq_engine.specs.Private.{bytes_of}
 use Rattle.sliq_engine.proofs.RunLemmas.{run_bad, run_untaken, run_taken}
 use Rattle.sliq_engine.proofs.top.carry_out.Goals as goal
 
-pub returns-in_default-clause-runs : goal.returns-in_default-clause-runs
-returns-in_default-clause-runs g c = run_bad _ (map string_bytes c.args.words.now) c.args.shelf.now (g.K.Sink.written c.args.out.now) c.in_default.ensures.asked
-
-pub take_all-requires : goal.take_all-requires
-take_all-requires g c = omega (arith, ap length c.files_of-files.ensures, length-drop 2 c.args.words.now, c.in-Some.ensures.few)
+pub returns-in-Err-Bad-clause-runs : goal.returns-in-Err-Bad-clause-runs
+returns-in-Err-Bad-clause-runs g c =
+    run_bad _ (map string_bytes c.args.words.now) c.args.shelf.now (g.K.Sink.written c.args.out.now) (c.in-Err-Bad.ensures.bad (ap (λ s. Err s) c.in-Err-Bad.field-0-is))
 
 pub returns-in-Err-clause-runs : goal.returns-in-Err-clause-runs
 returns-in-Err-clause-runs g c =
-    let task = c.in-Some.task in
-    let asks : asked_of (map string_bytes c.args.words.now) ≡ Some (by_usual_rules task (map string_bytes c.files_of-files.result.now)) =
-    c.in-Some.ensures.asked ∙ ap (λ l. Some (by_usual_rules task (map string_bytes l))) (sym c.files_of-files.ensures) in
-    run_untaken _ task (map string_bytes c.args.words.now) (map string_bytes c.files_of-files.result.now) c.args.shelf.now c.take_all.new.shelf asks c.in-Err.cause (g.K.Sink.written c.args.out.now) c.in-Err.ensures.stop
-
-pub perform-requires-clause-files : goal.perform-requires-clause-files
-perform-requires-clause-files g c =
-    omega (arith, ap length c.as_slice.ensures.value, c.in-Ok.ensures.count, ap length c.files_of-files.ensures, length-drop 2 c.args.words.now, c.in-Some.ensures.count)
+    let s = g.S.Shelf in
+    let shelf : Shelf g.row.S.Denot = record { text = s.text; faults = s.faults; ready = s.ready; taken = s.taken; ended = s.ended } in
+    let asked : Request = request_of c.in-Ok.asked in
+    let cause : Cause = c.in-Err.cause in
+    let names : map string_bytes c.as_slice.result.now ≡ asked.files = ap (map string_bytes) c.as_slice.ensures.value in
+    let stop : MayStopBy (Takes shelf 1 asked.files c.args.shelf.now c.take_all.new.shelf) cause =
+    subst (λ (fs : List (List ℕ)). MayStopBy (Takes shelf 1 fs c.args.shelf.now c.take_all.new.shelf) cause) names c.in-Err.ensures.stop in
+    run_untaken shelf (map string_bytes c.args.words.now) asked c.args.shelf.now c.take_all.new.shelf c.in-Ok.ensures.reads cause (g.K.Sink.written c.args.out.now) stop
 
 pub returns-in-Ok-perform-clause-runs : goal.returns-in-Ok-perform-clause-runs
 returns-in-Ok-perform-clause-runs g c =
-    let task = c.in-Some.task in
-    let asks : asked_of (map string_bytes c.args.words.now) ≡ Some (by_usual_rules task (map string_bytes c.files_of-files.result.now)) =
-    c.in-Some.ensures.asked ∙ ap (λ l. Some (by_usual_rules task (map string_bytes l))) (sym c.files_of-files.ensures) in
-    let P : List (Vec ℕ Global) → Type 0 = λ l. MayEnd (CarriesOut task c.usual.result (bytes_of l)) Done (g.K.Sink.written c.args.out.now) (g.K.Sink.written c.perform.new.out) in
-    run_taken _ task (map string_bytes c.args.words.now) (map string_bytes c.files_of-files.result.now) c.args.shelf.now c.take_all.new.shelf asks (bytes_of c.in-Ok.texts.items) c.usual.result Done (g.K.Sink.written c.args.out.now) (g.K.Sink.written c.perform.new.out)
-    c.in-Ok.ensures.takes c.usual.ensures (subst P c.as_slice.ensures.value c.in-Ok-perform.ensures.done)
+    let s = g.S.Shelf in
+    let shelf : Shelf g.row.S.Denot = record { text = s.text; faults = s.faults; ready = s.ready; taken = s.taken; ended = s.ended } in
+    let asked : Request = request_of c.in-Ok.asked in
+    let texts : List (List ℕ) = bytes_of c.in-Ok-take_all.texts.items in
+    let names : map string_bytes c.as_slice.result.now ≡ asked.files = ap (map string_bytes) c.as_slice.ensures.value in
+    let takes : Takes shelf 1 asked.files c.args.shelf.now c.take_all.new.shelf (Ok texts) =
+    subst (λ (fs : List (List ℕ)). Takes shelf 1 fs c.args.shelf.now c.take_all.new.shelf (Ok texts)) names c.in-Ok-take_all.ensures.takes in
+    let P : List (Vec ℕ Global) → Type 0 = λ l. MayEnd (CarriesOut asked.task asked.rules (bytes_of l)) Done (g.K.Sink.written c.args.out.now) (g.K.Sink.written c.perform.new.out) in
+    run_taken shelf (map string_bytes c.args.words.now) asked c.args.shelf.now c.take_all.new.shelf c.in-Ok.ensures.reads texts Done (g.K.Sink.written c.args.out.now) (g.K.Sink.written c.perform.new.out)
+    takes (subst P c.as_slice-2.ensures.value c.in-Ok-perform.ensures.done)
 
 pub returns-clause-runs : goal.returns-clause-runs
 returns-clause-runs g c =
-    let task = c.in-Some.task in
-    let asks : asked_of (map string_bytes c.args.words.now) ≡ Some (by_usual_rules task (map string_bytes c.files_of-files.result.now)) =
-    c.in-Some.ensures.asked ∙ ap (λ l. Some (by_usual_rules task (map string_bytes l))) (sym c.files_of-files.ensures) in
-    let P : List (Vec ℕ Global) → Type 0 = λ l. MayEnd (CarriesOut task c.usual.result (bytes_of l)) c.in-Err-perform.cause (g.K.Sink.written c.args.out.now) (g.K.Sink.written c.perform.new.out) in
-    run_taken _ task (map string_bytes c.args.words.now) (map string_bytes c.files_of-files.result.now) c.args.shelf.now c.take_all.new.shelf asks (bytes_of c.in-Ok.texts.items) c.usual.result c.in-Err-perform.cause (g.K.Sink.written c.args.out.now) (g.K.Sink.written c.perform.new.out)
-    c.in-Ok.ensures.takes c.usual.ensures (subst P c.as_slice.ensures.value c.in-Err-perform.ensures.stop)
+    let s = g.S.Shelf in
+    let shelf : Shelf g.row.S.Denot = record { text = s.text; faults = s.faults; ready = s.ready; taken = s.taken; ended = s.ended } in
+    let asked : Request = request_of c.in-Ok.asked in
+    let cause : Cause = c.in-Err-perform.cause in
+    let texts : List (List ℕ) = bytes_of c.in-Ok-take_all.texts.items in
+    let names : map string_bytes c.as_slice.result.now ≡ asked.files = ap (map string_bytes) c.as_slice.ensures.value in
+    let takes : Takes shelf 1 asked.files c.args.shelf.now c.take_all.new.shelf (Ok texts) =
+    subst (λ (fs : List (List ℕ)). Takes shelf 1 fs c.args.shelf.now c.take_all.new.shelf (Ok texts)) names c.in-Ok-take_all.ensures.takes in
+    let P : List (Vec ℕ Global) → Type 0 = λ l. MayEnd (CarriesOut asked.task asked.rules (bytes_of l)) cause (g.K.Sink.written c.args.out.now) (g.K.Sink.written c.perform.new.out) in
+    run_taken shelf (map string_bytes c.args.words.now) asked c.args.shelf.now c.take_all.new.shelf c.in-Ok.ensures.reads texts cause (g.K.Sink.written c.args.out.now) (g.K.Sink.written c.perform.new.out)
+    takes (subst P c.as_slice-2.ensures.value c.in-Err-perform.ensures.stop)
