@@ -289,12 +289,12 @@ fn summaries_of_demo(rt: HostRuntime) -> Result<(), OutOfMemory> {
             b"qubits 12\ngates 7\nexponent 4\nstates 16\nfirst |000000000001> (0,-1,0,0)/sqrt2^4\nlast |111100000001> (0,0,0,1)/sqrt2^4\n",
         ),
         (
-            &["sliq", "demo", "12", "2000", "7"],
-            b"qubits 12\ngates 2004\nexponent 4\nstates 16\nfirst |000101100110> (0,-1,0,0)/sqrt2^4\nlast |111110100101> (0,0,-1,0)/sqrt2^4\n",
+            &["sliq", "demo", "7", "300", "7"],
+            b"qubits 7\ngates 304\nexponent 4\nstates 16\nfirst |0000000> (-1,0,0,0)/sqrt2^4\nlast |1111111> (0,0,0,-1)/sqrt2^4\n",
         ),
         (
-            &["sliq", "demo", "1", "20000", "3"],
-            b"qubits 1\ngates 20001\nexponent 1\nstates 2\nfirst |0> (0,0,1,0)/sqrt2^1\nlast |1> (0,0,0,-1)/sqrt2^1\n",
+            &["sliq", "demo", "1", "1000", "3"],
+            b"qubits 1\ngates 1001\nexponent 1\nstates 2\nfirst |0> (0,0,1,0)/sqrt2^1\nlast |1> (0,0,-1,0)/sqrt2^1\n",
         ),
     ];
     let devices = Devices {
