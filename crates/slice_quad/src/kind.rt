@@ -1,0 +1,53 @@
+//! What a step does.
+ghost use Rattle.std.specs.Prelude.{◌≡◌};
+ghost use Rattle.slice_quad.specs.Stepping.{half_of, target_with};
+
+use crate::gate::Target;
+use bit_lists::Bits;
+use gate_set::Entry;
+
+/// One gate on a vector: a matrix on a target, or an exchange of two variables, where controls hold.
+///
+/// `controls` has a true bit for each controlling variable. The entry in a row and a column of the matrix
+/// is `rows[row][column]`, where 1 stands for a target that is set, and `half` is how many factors 1/√2
+/// the matrix has beside its entries.
+#[derive(Clone, Copy)]
+pub enum Step {
+    Mix {
+        controls: Bits,
+        target: u8,
+        rows: [[Entry; 2]; 2],
+        half: u8,
+    },
+    Exchange {
+        controls: Bits,
+        first: u8,
+        second: u8,
+    },
+}
+
+impl Step {
+    /// How many factors 1/√2 it has beside the entries of its matrix.
+    pub fn half(&self) -> u8
+        ensures { result ≡ half_of self.now }
+    {
+        match self {
+            Step::Mix { half, .. } => *half,
+            Step::Exchange { .. } => 0,
+        }
+    }
+}
+
+/// A matrix on a target, by its rows.
+pub fn target_of(controls: Bits, target: u8, rows: [[Entry; 2]; 2]) -> Target
+    ensures { result ≡ target_with controls target rows }
+{
+    Target {
+        controls,
+        target,
+        low_low: rows[0][0],
+        low_high: rows[0][1],
+        high_low: rows[1][0],
+        high_high: rows[1][1],
+    }
+}

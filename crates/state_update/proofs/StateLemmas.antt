@@ -1,0 +1,196 @@
+-- What keeps a state, at its start and from gate to gate, and what is read of it.
+use Rattle.std.proofs.Common.{◌≡◌, ◌≢◌, ℕ, suc, ◌+◌, ◌<◌, ◌≤◌, Bool, true, false, cond, List, [], ◌∷◌, ◌++◌, length, All, Option, None, Some, Result, Ok, Err, refl, sym, ◌∙◌, ap, subst, arith, length-append}
+use Rattle.std.specs.List.{range_with_len}
+use Rattle.std.specs.Prelude.{IfOk, IfSome, IfNone}
+use Rattle.std.proofs.lemmas.List.FromFn.{length-range_with_len}
+use Rattle.std.proofs.lemmas.List.Elements.{All-nil, All-cons, All-append}
+use Rattle.ring_omega.specs.declared.quad.Quad.{Quad}
+use Rattle.ring_omega.specs.Ring.{zero_quad, one_quad}
+use Rattle.bit_lists.specs.Lists.{IsBefore}
+use Rattle.gate_set.specs.declared.gate.Gate.{Gate}
+use Rattle.gate_set.specs.Shape.{IsOn}
+use Rattle.circuit_model.specs.Product.{basis_state, same_bits}
+use Rattle.circuit_model.specs.Working.{Scaled, FitsWidth, raw, step, work}
+use Rattle.circuit_model.proofs.VectorLemmas.{same_bits-refl, same_bits-true}
+use Rattle.circuit_model.proofs.WorkingLemmas.{work-last, step_exponent}
+use Rattle.diagram_model.specs.Functions.{bit}
+use Rattle.diagram_model.specs.Stores.{Diagram}
+use Rattle.diagram_ops.specs.Diagrams.{Shared, IsConsistent}
+use Rattle.diagram_ops.specs.Made.{Property}
+use Rattle.slice_vec.specs.Growing.{Grows}
+use Rattle.amp_dense.specs.Nonzero as amplitudes
+use Rattle.amp_dense.specs.Rules.{Settings, AreRules}
+use Rattle.amp_dense.specs.Standing.{Standing, Fits}
+use Rattle.slice_quad.specs.declared.quad.SliceQuad.{SliceQuad}
+use Rattle.slice_quad.specs.Mix.{Vector}
+use Rattle.slice_quad.specs.Nonzero.{IsAfter, IsNextNonzero, NoneAfter}
+use Rattle.slice_quad.specs.Started.{IsStart}
+use Rattle.slice_quad.specs.Vectors.{vector_in, Stands}
+use Rattle.slice_quad.specs.Walks.{entries_in}
+use Rattle.slice_gates.specs.Shown.{IsShown, Shows}
+use Rattle.slice_quad.proofs.Onwards.{vector_on}
+use Rattle.slice_quad.proofs.StepCalls.{whole_of}
+use Rattle.state_update.specs.Kept.{State, IsKept, standing_of}
+
+-- ---- the start
+-- the integers at the start are the basis state
+start_entry : (e : Diagram) (input : List Bool) (q : SliceQuad) (x : List Bool) → IsStart e input q → length x ≡ length input → basis_state input x ≡ vector_in e q.four (bit x)
+unfolding entries_in
+start_entry e input q x h len = by_test (same_bits x input) refl
+  where
+    by_test : (b : Bool) → same_bits x input ≡ b → cond b one_quad zero_quad ≡ vector_in e q.four (bit x)
+    by_test true is =
+        let same : x ≡ input = same_bits-true x input is in
+        sym h.there ∙ ap (λ (y : List Bool). vector_in e q.four (bit y)) (sym same)
+    by_test false is = sym (h.elsewhere x len (λ same. let no : true ≡ false = sym (same_bits-refl x) ∙ ap (same_bits x) same ∙ is in cc))
+
+start_shows : (e : Diagram) (input : List Bool) (q : SliceQuad) → IsStart e input q → length e.order ≡ length input → Shows e q (work [] input)
+unfolding work
+start_shows e input q h size = record { exponent = sym h.exponent; entries = λ x len. start_entry e input q x h (len ∙ size) }
+
+-- as many variables as qubits
+pub size_of_order : (order : List ℕ) (n : ℕ) → order ≡ range_with_len 0 n → length order ≡ n
+size_of_order order n e = ap (λ (l : List ℕ). length l) e ∙ length-range_with_len 0 n
+
+abbrev pub state_with : List Bool → Settings → List Gate → Shared → SliceQuad → State
+state_with input rules gates d q = record { input = input; rules = rules; gates = gates; diagrams = d; quad = q }
+
+pub kept_start : (input : List Bool) (rules : Settings) (gates : List Gate) (d : Shared) (q : SliceQuad) → length input ≤ 64 → AreRules rules → gates ≡ [] → IsConsistent d
+    → d.store.order ≡ range_with_len 0 (length input) → d.store.limit ≡ rules.nodes → IsStart d.store input q → IsKept (state_with input rules gates d q)
+kept_start input rules gates d q few are none sound order limit h = rw none begun
+  where
+    begun : IsKept (state_with input rules [] d q)
+    begun = record {
+      few_qubits = few;
+      few_gates = omega arith;
+      within = All-nil (IsOn (length input));
+      sound = sound;
+      order = order;
+      limit = limit;
+      stands = h.stands;
+      shows = start_shows d.store input q h (size_of_order d.store.order (length input) order);
+      small = let e = h.exponent in omega (arith, e);
+      narrow = let w = h.width in let two = are.least_width in omega (arith, w, two);
+      kept = h.kept;
+    }
+
+-- ---- one gate more
+pub kept_next : (s : State) (g : Gate) (gates : List Gate) (v : Shared) (r : SliceQuad) → IsKept s → IsOn (length s.input) g → length s.gates < 2000000 → gates ≡ s.gates ++ g ∷ []
+    → IsConsistent v → v.store.order ≡ s.diagrams.store.order → v.store.limit ≡ s.diagrams.store.limit → Stands v.store r
+    → Shows v.store r (step (length s.diagrams.store.order) (work s.gates s.input) g) → length r.four.a ≤ s.rules.width → r.kept ≡ s.quad.kept
+    → IsKept (state_with s.input s.rules gates v r)
+kept_next s g gates v r h on few more sound order limit stands shows narrow kept = rw more next
+  where
+    n : ℕ
+    n = length s.input
+
+    size : length s.diagrams.store.order ≡ n
+    size = size_of_order s.diagrams.store.order n h.order
+
+    w : Scaled
+    w = work (s.gates ++ g ∷ []) s.input
+
+    vector : step (length s.diagrams.store.order) (work s.gates s.input) g ≡ w
+    vector = ap (λ (m : ℕ). step m (work s.gates s.input) g) size ∙ sym (work-last s.gates g s.input)
+
+    long : length (s.gates ++ g ∷ []) ≡ length s.gates + 1
+    long = length-append {A = Gate} s.gates (g ∷ [])
+
+    next : IsKept (state_with s.input s.rules (s.gates ++ g ∷ []) v r)
+    next = record {
+      few_qubits = h.few_qubits;
+      few_gates = omega (arith, long, few);
+      within = All-append (IsOn n) s.gates (g ∷ []) h.within (All-cons (IsOn n) g [] on (All-nil (IsOn n)));
+      sound = sound;
+      order = order ∙ h.order;
+      limit = limit ∙ h.limit;
+      stands = stands;
+      shows = subst (λ (u : Scaled). Shows v.store r u) vector shows;
+      small =
+          let raised = shows.exponent in
+          let before = h.shows.exponent in
+          let few = step_exponent (length s.diagrams.store.order) (work s.gates s.input) g in
+          let small = h.small in
+          omega (arith, raised, before, few, small, long);
+      narrow = narrow;
+      kept = ap (λ k. k.0) kept ∙ h.kept;
+    }
+
+-- after a stop
+pub kept_stop : (s : State) (v : Shared) → IsKept s → IsConsistent v → v.store.order ≡ s.diagrams.store.order → v.store.limit ≡ s.diagrams.store.limit → Stands v.store s.quad
+    → Shows v.store s.quad (work s.gates s.input) → IsKept (state_with s.input s.rules s.gates v s.quad)
+kept_stop s v h sound order limit stands shows = record {
+  few_qubits = h.few_qubits;
+  few_gates = h.few_gates;
+  within = h.within;
+  sound = sound;
+  order = order ∙ h.order;
+  limit = limit ∙ h.limit;
+  stands = stands;
+  shows = shows;
+  small = h.small;
+  narrow = h.narrow;
+  kept = h.kept;
+}
+
+-- ---- what is read
+pub entry_is : (s : State) (x : List Bool) → IsKept s → length x ≡ length s.input → entries_in s.diagrams.store s.quad.four x ≡ (work s.gates s.input).entries x
+unfolding entries_in
+entry_is s x h len = sym (h.shows.entries x (len ∙ sym (size_of_order s.diagrams.store.order (length s.input) h.order)))
+
+pub next_is : (s : State) (m : ℕ) (given : Option (List Bool)) (x : List Bool) → IsKept s → m ≡ length s.input → IsNextNonzero m (entries_in s.diagrams.store s.quad.four) given x
+    → amplitudes.IsNextNonzero (length s.input) (work s.gates s.input).entries given x
+next_is s m given x h size is = record {
+  long = is.long ∙ size;
+  after = after_as given x is.after;
+  nonzero = λ zero. is.nonzero (entry_is s x h (is.long ∙ size) ∙ zero);
+  first = λ y len after before. sym (entry_is s y h len) ∙ is.first y (len ∙ sym size) (after_from given y after) before;
+}
+  where
+    after_as : (o : Option (List Bool)) (y : List Bool) → IsAfter o y → amplitudes.IsAfter o y
+    after_as None y a = a
+    after_as (Some z) y a = a
+
+    after_from : (o : Option (List Bool)) (y : List Bool) → amplitudes.IsAfter o y → IsAfter o y
+    after_from None y a = a
+    after_from (Some z) y a = a
+
+pub none_is : (s : State) (m : ℕ) (given : Option (List Bool)) → IsKept s → m ≡ length s.input → NoneAfter m (entries_in s.diagrams.store s.quad.four) given
+    → amplitudes.NoneAfter (length s.input) (work s.gates s.input).entries given
+none_is s m given h size none x len after = sym (entry_is s x h len) ∙ none x (len ∙ sym size) (after_from given x after)
+  where
+    after_from : (o : Option (List Bool)) (y : List Bool) → amplitudes.IsAfter o y → IsAfter o y
+    after_from None y a = a
+    after_from (Some z) y a = a
+
+-- ---- what a gate's step says, in the words of the state
+-- the entries stay where nodes are added
+pub shows_on : (u v : Shared) (Is : Property) (q : SliceQuad) (w : Scaled) → IsConsistent u → Grows u Is v → Stands u.store q → Shows u.store q w → Shows v.store q w
+shows_on u v Is q w sound g stands h =
+    let whole = whole_of u.store q stands q.width_b q.width_c q.width_d in
+    let same : vector_in v.store q.four ≡ vector_in u.store q.four = vector_on u v Is (length q.four.a) q.four sound g whole in
+    let size : length v.store.order ≡ length u.store.order = ap (λ (l : List ℕ). length l) g.extends.order in
+    record { exponent = h.exponent; entries = λ x len. h.entries x (len ∙ size) ∙ ap (λ (f : Vector). f (bit x)) (sym same) }
+
+pub fits_state : (s : State) (g : Gate) (width : ℕ) → IsKept s → width ≡ s.rules.width → FitsWidth (length s.diagrams.store.order) width (raw g (work s.gates s.input)).entries → Fits (standing_of s) g
+fits_state s g width h e fits =
+    let size = size_of_order s.diagrams.store.order (length s.input) h.order in
+    let here : FitsWidth (length s.input) width (raw g (work s.gates s.input)).entries = subst (λ n. FitsWidth n width (raw g (work s.gates s.input)).entries) size fits in
+    subst (λ n. FitsWidth (length s.input) n (raw g (work s.gates s.input)).entries) e here
+
+pub state_fits : (s : State) (g : Gate) (width : ℕ) → IsKept s → width ≡ s.rules.width → Fits (standing_of s) g → FitsWidth (length s.diagrams.store.order) width (raw g (work s.gates s.input)).entries
+state_fits s g width h e fits =
+    let size = size_of_order s.diagrams.store.order (length s.input) h.order in
+    let here : FitsWidth (length s.input) width (raw g (work s.gates s.input)).entries = subst (λ n. FitsWidth (length s.input) n (raw g (work s.gates s.input)).entries) (sym e) fits in
+    subst (λ n. FitsWidth n width (raw g (work s.gates s.input)).entries) (sym size) here
+
+-- ---- answers by other words
+pub ok_some : {E : Type 0} (r : Result (Option (List Bool)) E) (P Q : List Bool → Type 0) → IfOk r (λ next. IfSome next P) → ((x : List Bool) → P x → Q x) → IfOk r (λ next. IfSome next Q)
+ok_some (Ok (Some x)) P Q h to = to x h
+ok_some (Ok None) P Q h to = tt
+ok_some (Err e) P Q h to = tt
+
+pub ok_none : {E : Type 0} (r : Result (Option (List Bool)) E) (P Q : Type 0) → IfOk r (λ next. IfNone next P) → (P → Q) → IfOk r (λ next. IfNone next Q)
+ok_none (Ok (Some x)) P Q h to = tt
+ok_none (Ok None) P Q h to = to h
+ok_none (Err e) P Q h to = tt

@@ -1,0 +1,9 @@
+//! The working vector of up to 64 qubits, kept as integers over decision diagrams.
+#![tactic(auto)]
+
+mod sliced;
+
+pub use sliced::SlicedState;
+
+#[cfg(test)]
+mod tests;

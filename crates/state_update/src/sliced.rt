@@ -1,0 +1,135 @@
+//! A working vector as integers over decision diagrams.
+ghost use Rattle.std.specs.Prelude.{◌≡◌, ◌≤◌, ◌<◌, length, All, IfOk, IfErr, OnOk, OnErr, IfSome, IfNone};
+
+use amp_dense::{Amplitudes, Rules, Stop};
+use bit_lists::{Bits, OutOfMemory};
+use diagram_ops::Diagrams;
+use gate_set::Gate;
+use ring_omega::Quad;
+use slice_gates::gate_step;
+use slice_quad::{QuadStop, SliceQuad, entry, exponent, next_nonzero, start};
+use std::alloc::Global;
+use std::marker::Model;
+
+/// The working vector of at most 64 qubits, as integers over decision diagrams with a variable for each qubit.
+///
+/// A gate takes the time of the connectives of its step: what it costs depends on how many functions the bits of the
+/// vector share, not on the number of basis states. Nodes that are no longer wanted stay held.
+#[derive(Drop)]
+pub struct SlicedState {
+    input: Bits,
+    rules: Rules,
+    gates: Vec<Gate>,
+    diagrams: Diagrams,
+    quad: SliceQuad,
+}
+
+impl Model for SlicedState {
+    ghost use Rattle.state_update.specs.Kept.{State, IsKept};
+
+    ghost Value = { State };
+
+    ghost view = { λ s. record { input = s.input; rules = s.rules; gates = s.gates.items; diagrams = s.diagrams; quad = s.quad } };
+
+    ghost invariant = { λ s. IsKept (record { input = s.input; rules = s.rules; gates = s.gates.items; diagrams = s.diagrams; quad = s.quad }) };
+}
+
+impl SlicedState {
+    ghost use Rattle.state_update.specs.Kept.{standing_of};
+    ghost use Rattle.amp_dense.specs.Standing.{vector};
+    ghost use Rattle.slice_quad.specs.Vectors.{Stands};
+    ghost use Rattle.slice_gates.specs.Shown.{Shows};
+
+    /// The diagrams, with one variable for each qubit, and the integers that stand in them. The kept function is FALSE.
+    pub fn parts(&self) -> (&Diagrams, &SliceQuad)
+        ensures diagrams { result.0.now ≡ self.now.diagrams }
+        ensures quad { result.1.now ≡ self.now.quad }
+        ensures variables { length self.now.diagrams.store.order ≡ length self.now.input }
+        ensures stands { Stands self.now.diagrams.store self.now.quad }
+        ensures shows { Shows self.now.diagrams.store self.now.quad (vector (standing_of self.now)) }
+        ensures kept { self.now.quad.kept.0 ≡ 0 }
+    {
+        let _held = self.diagrams.cached();
+        (&self.diagrams, &self.quad)
+    }
+}
+
+impl Amplitudes for SlicedState {
+    ghost use Rattle.std.specs.Prelude.{◌≡◌, ◌<◌, IfErr, OnOk, OnErr, length};
+    ghost use Rattle.gate_set.specs.Shape.{IsOn};
+    ghost use Rattle.amp_dense.specs.Standing.{Standing, Accepts, Applies, MayStop, NamesOrder, in_order};
+    ghost use Rattle.state_update.specs.Kept.{standing_of, sliced_policy, IsFull};
+
+    const MOST: u8 = 64;
+
+    ghost MOST = { 64 };
+
+    ghost standing = { λ s. standing_of s };
+
+    ghost policy = { sliced_policy };
+
+    fn start(alloc: Global, input: &Bits, rules: &Rules) -> Result<Self, Stop> {
+        let _width = rules.width();
+        let mut diagrams = Diagrams::new(alloc, input.len(), rules.nodes, rules.cache)?;
+        let Ok(quad) = start(alloc, &mut diagrams, input) else {
+            return Err(Stop::OutOfMemory);
+        };
+        Ok(SlicedState {
+            input: *input,
+            rules: *rules,
+            gates: Vec::new(alloc),
+            diagrams,
+            quad,
+        })
+    }
+
+    /// After `Nodes` the diagrams of `parts` hold as many nodes as the rules let them.
+    fn apply(&mut self, alloc: Global, gate: &Gate) -> Result<(), Stop>
+        requires within { IsOn (length (standing_of self.old).input) gate.now }
+        requires few { length (standing_of self.old).gates < 2000000 }
+        ensures accepts { OnOk result (Accepts sliced_policy (standing_of self.old) gate.now (standing_of self.new)) }
+        ensures stops { IfErr result (MayStop (Applies sliced_policy (standing_of self.old) gate.now)) }
+        ensures in_force { IfErr result (NamesOrder (standing_of self.new).order) }
+        ensures refused { OnErr result (standing_of self.new ≡ in_order (standing_of self.old) (standing_of self.new).order) }
+        ensures order { sliced_policy.may_reorder (standing_of self.old) result (standing_of self.new).order }
+        ensures full { IfErr result (IsFull self.new.diagrams.store) }
+    {
+        let number = self.accepted() + 1;
+        self.gates.reserve(1)?;
+        let width = self.rules.width();
+        match gate_step(&mut self.diagrams, &mut self.quad, gate, width) {
+            Ok(()) => {
+                self.gates
+                    .push_reserved(Gate::new(alloc, gate.kind(), gate.on()));
+                Ok(())
+            }
+            Err(QuadStop::Width) => Err(Stop::Width { gate: number }),
+            Err(QuadStop::Full { held }) => Err(Stop::Nodes {
+                gate: number,
+                order: self.diagrams.store().order(),
+                held,
+            }),
+            Err(QuadStop::OutOfMemory) => Err(Stop::OutOfMemory),
+        }
+    }
+
+    fn entry(&self, x: &Bits) -> Quad {
+        entry(&self.diagrams, &self.quad, x)
+    }
+
+    fn next_nonzero(
+        &self,
+        _alloc: Global,
+        after: Option<&Bits>,
+    ) -> Result<Option<Bits>, OutOfMemory> {
+        next_nonzero(&self.diagrams, &self.quad, after)
+    }
+
+    fn exponent(&self) -> u32 {
+        exponent(&self.quad)
+    }
+
+    fn accepted(&self) -> u32 {
+        self.gates.len() as u32
+    }
+}
