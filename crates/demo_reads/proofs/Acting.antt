@@ -1,12 +1,11 @@
 -- The statements of the text of `demo`, and what they do.
 use Rattle.std.specs.Prelude.{◌≡◌, ℕ, true, List, [], ◌∷◌, ◌++◌, map, codes, decimal, Some, None}
 use Rattle.qasm_lex.specs.declared.token.Token.{Token}
-use Rattle.qasm_lex.specs.Lexemes.{AreTokens}
-use Rattle.qasm_reader.specs.Lexemes.{lexemes_of}
-use Rattle.qasm_reader.specs.Statements.{Statement, version, include, qubits, call as calling, Argument, written}
+use Rattle.qasm_lex.specs.Lexemes.{AreTokens, lexemes_of}
+use Rattle.qasm_forms.specs.Statements.{Statement, version, include, qubits, call as calling, Argument, written}
 use Rattle.qasm_reader.specs.Parts.{Part, parts_of}
-use Rattle.qasm_reader.specs.Acts.{Act, nothing, declares, applies}
-use Rattle.qasm_reader.specs.Calls.{builtin}
+use Rattle.qasm_reader.specs.Acts.{Act, Target, nothing, declares, applies}
+use Rattle.qasm_reader.specs.Calls.{builtin, one}
 use Rattle.demo_text.specs.Generator.{Call, demo_calls}
 use Rattle.demo_reads.specs.Drawn.{kind_in}
 
@@ -22,13 +21,17 @@ line_statement c = calling c.name None (map place_argument c.on)
 abbrev pub demo_statements : ℕ → ℕ → ℕ → List Statement
 demo_statements q n seed = version ∷ include (codes "\"qelib1.inc\"") ∷ qubits (codes "q") (decimal q) ∷ map line_statement (demo_calls q n seed)
 
--- the statement, with its `;`
+-- the statement as a part of the text
 abbrev pub closed_part : Statement → Part
-closed_part s = record { lexemes = written s; closed = true; bad = None }
+closed_part s = record { lexemes = written s; bad = None }
+
+-- what `q[I]` means, where `q` is the first register
+abbrev pub spot : ℕ → Target
+spot i = record { first = i; size = None }
 
 -- what a call's line does
 abbrev pub line_act : Call → Act
-line_act c = applies (kind_in (builtin c.name)) 1 (map place_argument c.on)
+line_act c = applies (one (kind_in (builtin c.name)) ∷ []) (map spot c.on)
 
 -- what the version, the include and the register do
 abbrev pub head_acts : ℕ → List Act
@@ -38,7 +41,7 @@ head_acts q = nothing ∷ nothing ∷ declares true (codes "q") q ∷ []
 abbrev pub demo_acts : ℕ → ℕ → ℕ → List Act
 demo_acts q n seed = head_acts q ++ map line_act (demo_calls q n seed)
 
--- the text has tokens, no bad place, and these statements, each closed
+-- the text has tokens, no bad place, and these statements, each with its end
 pub record HasStatements (text : List ℕ) (statements : List Statement) : Type 0 where
   pub tokens : List Token
   pub are_tokens : AreTokens text tokens None

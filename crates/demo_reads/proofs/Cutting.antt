@@ -1,10 +1,10 @@
 -- A text of pieces is cut into them.
-use Rattle.std.proofs.Common.{◌≡◌, ℕ, ◌+◌, ◌-◌, ◌≤◌, List, [], ◌∷◌, ◌++◌, map, length, drop, take, None, refl, sym, ◌∙◌, ap, subst, arith, length-append}
+use Rattle.std.proofs.Common.{◌≡◌, ℕ, ◌+◌, ◌-◌, List, [], ◌∷◌, ◌++◌, length, drop, take, refl, sym, ◌∙◌, ap, subst, arith, length-append}
 use Rattle.std.specs.List.{filter_map, slice_range}
 use Rattle.std.proofs.lemmas.List.{append-nil, append_assoc, drop_at, take_at}
 use Rattle.qasm_lex.specs.declared.pieces.Form.{Form}
 use Rattle.qasm_lex.specs.declared.pieces.Form.TheVariants.{Blank, Comment, Token as OfKind}
-use Rattle.qasm_lex.specs.Lexemes.{Begins, Piece, IsPiece, Cut, Lexeme, AreTokens, token_of, lexeme}
+use Rattle.qasm_lex.specs.Lexemes.{Begins, Piece, IsPiece, Cut, Lexeme, token_of, of_kind, lexemes_of}
 use Rattle.demo_reads.proofs.Spelled.{Spelled, AreFronts, text_of, lexeme_at, lexemes, HasLexemes}
 
 pub places : ℕ → List Spelled → List Piece
@@ -35,26 +35,26 @@ cut_all before text (p ∷ ps) e h =
     let rest = cut_all (before ++ p.bytes) text ps (after_place before text p ps e) f.1 in
     (refl, piece, subst (λ k. Cut text k (places k ps) (length text)) (length-append before p.bytes) rest)
 
-lex_step : (text : List ℕ) (form : Form) (from to : ℕ) (bytes : List ℕ) (ps : List Piece) (more : List Lexeme) → slice_range text from to ≡ bytes → map (lexeme text) (filter_map token_of ps) ≡ more → map (lexeme text) (filter_map token_of ((let r : Piece = record { form = form; from = from; to = to } in r) ∷ ps)) ≡ lexeme_at form bytes ++ more
+lex_step : (text : List ℕ) (form : Form) (from to : ℕ) (bytes : List ℕ) (ps : List Piece) (more : List Lexeme) → slice_range text from to ≡ bytes → lexemes_of text (filter_map token_of ps) ≡ more → lexemes_of text (filter_map token_of ((let r : Piece = record { form = form; from = from; to = to } in r) ∷ ps)) ≡ lexeme_at form bytes ++ more
 lex_step text Blank from to bytes ps more here rest = rest
 lex_step text Comment from to bytes ps more here rest = rest
 lex_step text (OfKind kind) from to bytes ps more here rest =
-    ap (λ b. (let l : Lexeme = record { kind = kind; bytes = b } in l) ∷ map (lexeme text) (filter_map token_of ps)) here
-    ∙ ap (λ l. (let x : Lexeme = record { kind = kind; bytes = bytes } in x) ∷ l) rest
+    ap (λ b. of_kind kind b ∷ lexemes_of text (filter_map token_of ps)) here
+    ∙ ap (λ l. of_kind kind bytes ∷ l) rest
 
 range_is : (before text bytes rest : List ℕ) → text ≡ before ++ (bytes ++ rest) → slice_range text (length before) (length before + length bytes) ≡ bytes
 range_is before text bytes rest e =
     let count : (length before + length bytes) - length before ≡ length bytes = omega arith in
     ap (λ k. take k (drop (length before) text)) count ∙ ap (take (length bytes)) (at_place before text (bytes ++ rest) e) ∙ take_at bytes rest (length bytes) refl
 
-pub lexemes_all : (before text : List ℕ) (ps : List Spelled) → text ≡ before ++ text_of ps → map (lexeme text) (filter_map token_of (places (length before) ps)) ≡ lexemes ps
+pub lexemes_all : (before text : List ℕ) (ps : List Spelled) → text ≡ before ++ text_of ps → lexemes_of text (filter_map token_of (places (length before) ps)) ≡ lexemes ps
 unfolding places text_of lexemes
 lexemes_all before text [] e = refl
 lexemes_all before text (p ∷ ps) e =
     let a = length before in
     let b = length before + length p.bytes in
     let rest = lexemes_all (before ++ p.bytes) text ps (after_place before text p ps e) in
-    let moved : map (lexeme text) (filter_map token_of (places b ps)) ≡ lexemes ps = subst (λ k. map (lexeme text) (filter_map token_of (places k ps)) ≡ lexemes ps) (length-append before p.bytes) rest in
+    let moved : lexemes_of text (filter_map token_of (places b ps)) ≡ lexemes ps = subst (λ k. lexemes_of text (filter_map token_of (places k ps)) ≡ lexemes ps) (length-append before p.bytes) rest in
     lex_step text p.form a b p.bytes (places b ps) (lexemes ps) (range_is before text p.bytes (text_of ps) e) moved
 
 -- the text has the tokens of its pieces

@@ -1,24 +1,23 @@
 -- The lines of the text of `demo`, piece by piece.
-use Rattle.std.proofs.Common.{◌≡◌, ◌≢◌, ℕ, zero, suc, ◌+◌, ◌<◌, ◌≤◌, ◌/◌, ◌%◌, ◌^◌, ◌==◌, Bool, true, false, cond, List, [], ◌∷◌, ◌++◌, map, length, get_or, take, drop, min, codes, decimal, inl, inr, refl, sym, ◌∙◌, ap, subst, arith}
+use Rattle.std.proofs.Common.{◌≡◌, ℕ, zero, suc, ◌+◌, ◌<◌, ◌≤◌, ◌/◌, ◌^◌, ◌==◌, true, cond, List, [], ◌∷◌, ◌++◌, map, length, get_or, take, drop, min, codes, decimal, inl, inr, refl, sym, ◌∙◌, ap, subst, arith}
 use Rattle.std.specs.List.{AllByRecursion, range_with_len, remove}
-use Rattle.std.proofs.lemmas.List.{append-nil, append_assoc}
+use Rattle.std.proofs.lemmas.List.{append_assoc}
 use Rattle.std.proofs.lemmas.Bool.{cases_eq, cases_Bool, cond-true, cond-false}
 use Rattle.std.proofs.lemmas.Int.Digits.{all_below_base_digits_of}
 use Rattle.std.specs.Int.Digits.{AllBelowBase, digits_of}
 use Rattle.std.proofs.lemmas.Fmt.{decimal-digits_of, decimal_digit, decimal_nonempty}
 use Rattle.std.proofs.Math.Nat.{mod-lt}
-use Rattle.qasm_lex.specs.declared.bytes.Part.TheVariants.{Words, Digits}
-use Rattle.qasm_lex.specs.declared.pieces.Form.{Form}
-use Rattle.qasm_lex.specs.declared.pieces.Form.TheVariants.{Blank, Token as OfKind}
-use Rattle.qasm_lex.specs.declared.token.TokenKind.TheVariants.{Word, Whole, Real, Text, Mark}
+use Rattle.qasm_lex.specs.declared.bytes.Part.TheVariants.{Digits}
+use Rattle.qasm_lex.specs.declared.pieces.Form.TheVariants.{Token as OfKind}
+use Rattle.qasm_lex.specs.declared.token.TokenKind.TheVariants.{Whole, Real, Text}
 use Rattle.qasm_lex.specs.Bytes.{class_of, in_part}
 use Rattle.qasm_lex.specs.Lexemes.{Begins, IsRun}
-use Rattle.qasm_lex.specs.Scan.{run, sign, exponent, number, quoted, piece_of}
+use Rattle.qasm_lex.specs.Private.Scan.{run, exponent, number, quoted, piece_of}
 use Rattle.qasm_lex.proofs.Front.{begins}
 use Rattle.demo_text.proofs.Writing.{demo_parted}
 use Rattle.demo_text.specs.Generator.{Call, call, names, name_at, kinds, drawn, next, arity, qubits_drawn, call_drawn, after_call, calls_drawn, place_text, more_places, places_text, line, lines, first_calls, head_text, demo_text}
-use Rattle.demo_reads.proofs.Spelled.{Spelled, spelled, text_of, AreFronts, lexemes, HasLexemes}
-use Rattle.demo_reads.proofs.Pieces.{word, mark, gap, place_pieces, more_pieces, places_pieces, line_end, line_pieces, lines_pieces, head_pieces, demo_pieces}
+use Rattle.demo_reads.proofs.Spelled.{Spelled, text_of, AreFronts, lexemes, HasLexemes}
+use Rattle.demo_reads.proofs.Pieces.{place_pieces, more_pieces, places_pieces, line_end, line_pieces, lines_pieces, head_pieces, demo_pieces}
 use Rattle.demo_reads.proofs.Cutting.{spelled_tokens}
 use Rattle.demo_reads.proofs.Fronts.{IsWord, AreDigits, word_front, mark_front, blank_front, feed_front, whole_front}
 

@@ -1,5 +1,5 @@
 -- The text of `demo` reads as the circuit of its calls.
-use Rattle.std.proofs.Common.{◌≡◌, ◌≢◌, ℕ, zero, suc, ◌+◌, ◌-◌, ◌*◌, ◌<◌, ◌≤◌, ◌^◌, ◌==◌, Bool, true, false, cond, nat_eq, nat_lt, List, [], ◌∷◌, ◌++◌, map, length, get_or, take, drop, min, codes, decimal, Some, None, inl, inr, refl, sym, ◌∙◌, ap, subst, arith, rules, length-append, replicate}
+use Rattle.std.proofs.Common.{◌≡◌, ◌≢◌, ℕ, zero, suc, ◌+◌, ◌-◌, ◌*◌, ◌<◌, ◌≤◌, ◌^◌, Bool, true, false, cond, nat_eq, nat_lt, List, [], ◌∷◌, ◌++◌, map, length, get_or, min, codes, decimal, Some, None, inl, inr, refl, sym, ◌∙◌, ap, subst, arith, rules, length-append, replicate}
 use Rattle.std.specs.Prelude.{◌||◌}
 use Rattle.std.specs.List.{AllByRecursion, list_any, range_with_len, remove}
 use Rattle.std.specs.Int.Digits.{digits_of, number_from_digits_after}
@@ -14,28 +14,29 @@ use Rattle.gate_set.specs.declared.gate.Gate.{Gate as GateOf}
 use Rattle.gate_set.specs.Circuits.{Circuit}
 use Rattle.gate_set.specs.Matrix.{arity_of}
 use Rattle.qasm_lex.specs.Symbols.{decimal as read_decimal}
-use Rattle.qasm_reader.specs.declared.builtin.Builtin.TheVariants.{Gate}
-use Rattle.qasm_reader.specs.Statements.{Statement, version, include, qubits, is_name, is_left_out}
-use Rattle.qasm_reader.specs.Parts.{Part, Has}
+use Rattle.qasm_forms.specs.Statements.{Statement, version, include, qubits, is_name}
+use Rattle.qasm_reader.specs.Profile.{leaves}
+use Rattle.qasm_reader.specs.Parts.{Has}
 use Rattle.qasm_reader.specs.Acts.{Act, nothing, declares, qubit_count, gates, measured, up_to, is_among, circuit_of}
-use Rattle.qasm_reader.specs.Calls.{builtin, Does}
-use Rattle.qasm_reader.specs.Reasons.{has_twice, no_size}
+use Rattle.qasm_reader.specs.Calls.{gate, builtin, Does}
+use Rattle.qasm_reader.specs.Reasons.{no_size}
+use Rattle.qasm_reader.specs.Private.Scope.{has_twice}
 use Rattle.qasm_reader.specs.Reading.{Accepts, AllAccepted, Reads, ReadsAs, circuit}
 use Rattle.demo_text.specs.Generator.{Call, call, name_at, kinds, drawn, next, arity, qubits_drawn, call_drawn, after_call, calls_drawn, first_calls, demo_calls, demo_text}
 use Rattle.demo_reads.specs.Drawn.{kind_in, gate_of, drawn_circuit}
-use Rattle.demo_reads.proofs.Acting.{closed_part, line_act, line_statement, demo_statements, head_acts, demo_acts, HasStatements}
-use Rattle.demo_reads.proofs.Accepting.{Harmless, free_of, Known, IsCall, accept_calls, known_calls}
+use Rattle.demo_reads.proofs.Acting.{closed_part, demo_statements, head_acts, demo_acts, HasStatements}
+use Rattle.demo_reads.proofs.Accepting.{Harmless, free_of, none_refused, no_call, Known, IsCall, accept_calls, known_calls}
 use Rattle.demo_reads.proofs.Lines.{all_at, drawn_below, kinds_few}
 
 -- the names are those of gates
 record NameOk (bs : List ℕ) (n : ℕ) : Type 0 where
   name : is_name bs ≡ true
-  kept : is_left_out bs ≡ false
-  gate : builtin bs ≡ Some (Gate (kind_in (builtin bs)))
+  kept : leaves [] bs ≡ false
+  gate : builtin bs ≡ Some (gate (kind_in (builtin bs)))
   count : arity_of (kind_in (builtin bs)) ≡ n
 
 names_ok : (k : ℕ) → k < 13 → NameOk (name_at k) (arity k)
-unfolding name_at is_name is_left_out builtin
+unfolding name_at is_name builtin
 names_ok zero lt = record { name = refl; kept = refl; gate = refl; count = refl }
 names_ok (suc zero) lt = record { name = refl; kept = refl; gate = refl; count = refl }
 names_ok (suc (suc zero)) lt = record { name = refl; kept = refl; gate = refl; count = refl }
@@ -52,7 +53,7 @@ names_ok (suc (suc (suc (suc (suc (suc (suc (suc (suc (suc (suc (suc zero)))))))
 names_ok (suc (suc (suc (suc (suc (suc (suc (suc (suc (suc (suc (suc (suc k))))))))))))) lt = absurd (omega arith)
 
 h_ok : NameOk (codes "h") 1
-unfolding is_name is_left_out builtin
+unfolding is_name builtin
 h_ok = record { name = refl; kept = refl; gate = refl; count = refl }
 
 -- lists without repetition
@@ -252,11 +253,11 @@ count_calls q n seed le =
     omega (arith, length-append (first_calls q) (calls_drawn q n seed), first, length_calls q n seed, le)
 
 -- the head
-accept : (limit : ℕ) (before : List Act) (s : Statement) (act : Act) → Harmless limit before s → Has before (closed_part s) s → Does s act → Accepts limit before (closed_part s) act
+accept : (limit : ℕ) (before : List Act) (s : Statement) (act : Act) → Harmless limit before s → Has before (closed_part s) s → Does before s act → Accepts limit before (closed_part s) act
 accept limit before s act h has does = record { free = free_of limit before s h has; statement = s; has = has; does = does }
 
 version_has : Has [] (closed_part version) version
-version_has = record { closed = refl; spelled = refl; formed = tt; first = λ e. refl }
+version_has = record { spelled = refl; statement = record { formed = tt; tried = refl }; first = λ e. refl }
 
 accept_version : Accepts 64 [] (closed_part version) nothing
 accept_version = accept 64 [] version nothing (record {
@@ -267,10 +268,11 @@ accept_version = accept 64 [] version nothing (record {
   register = refl;
   range = refl;
   count = refl;
-  sizes = refl;
-  once = refl;
-  angle = λ a e. e;
-  gone = refl;
+  sizes = λ d. d;
+  once = λ d. d;
+  angle = none_refused;
+  grid = no_call;
+  gone = λ d. d;
   qubits = λ act does. rw does (omega arith);
   gates = λ act does. rw does (omega arith);
 }) version_has refl
@@ -287,13 +289,14 @@ accept_include = accept 64 (nothing ∷ []) (include file) nothing (record {
   register = refl;
   range = refl;
   count = refl;
-  sizes = refl;
-  once = refl;
-  angle = λ a e. e;
-  gone = refl;
+  sizes = λ d. d;
+  once = λ d. d;
+  angle = none_refused;
+  grid = no_call;
+  gone = λ d. d;
   qubits = λ act does. rw does (omega arith);
   gates = λ act does. rw does (omega arith);
-}) (record { closed = refl; spelled = refl; formed = tt; first = λ e. absurd (cc) }) refl
+}) (record { spelled = refl; statement = record { formed = tt; tried = refl }; first = λ e. absurd (cc) }) refl
 
 size_ok : (q : ℕ) → 1 ≤ q → q ≤ 64 → (no_size q || (false || false)) ≡ false
 size_ok q some le =
@@ -313,13 +316,14 @@ accept_register q some le =
       register = refl;
       range = ap (λ n. no_size n || (false || false)) back ∙ size_ok q some le;
       count = refl;
-      sizes = refl;
-      once = refl;
-      angle = λ a e. e;
-      gone = refl;
+      sizes = λ d. d;
+      once = λ d. d;
+      angle = none_refused;
+      grid = no_call;
+      gone = λ d. d;
       qubits = λ act does. rw does (omega (arith, back, le));
       gates = λ act does. rw does (omega arith);
-    }) (record { closed = refl; spelled = refl; formed = refl; first = λ e. absurd (cc) }) (ap (declares true (codes "q")) (sym back))
+    }) (record { spelled = refl; statement = record { formed = refl; tried = refl }; first = λ e. absurd (cc) }) (ap (declares true (codes "q")) (sym back))
 
 -- what is known before the first call
 known_start : (q : ℕ) → Known q [] (head_acts q)

@@ -1,11 +1,11 @@
 -- What a reading says of a result.
-use Rattle.std.proofs.Common.{◌≡◌, ℕ, Result, Ok, Err, sym}
+use Rattle.std.proofs.Common.{◌≡◌, ℕ, Err, sym}
 use Rattle.gate_set.specs.Circuits.{Circuit}
 use Rattle.qasm_reader.specs.declared.reason.Why.{Why}
 use Rattle.qasm_reader.specs.declared.reason.Refusal.{Refusal}
 use Rattle.qasm_reader.specs.declared.reason.ReadStop.{ReadStop}
 use Rattle.qasm_reader.specs.declared.reason.ReadStop.TheVariants.{Refused, OutOfMemory}
-use Rattle.qasm_reader.specs.Reading.{Reading, Says, circuit, refusal}
+use Rattle.qasm_reader.specs.Reading.{Says, circuit, refusal}
 
 -- two readings as circuits are of one circuit
 pub same_circuit : (a b : Circuit) → circuit a ≡ circuit b → b ≡ a

@@ -1,5 +1,5 @@
 -- The statements of the text of `demo`, and its reading.
-use Rattle.std.proofs.Common.{◌≡◌, ◌≤◌, ℕ, ◌∙◌, ap, map, None}
+use Rattle.std.proofs.Common.{◌≤◌, ℕ, ◌∙◌, ap, None}
 use Rattle.qasm_reader.specs.declared.reason.Why.{Why}
 use Rattle.qasm_reader.specs.Parts.{parts_of}
 use Rattle.qasm_reader.specs.Reading.{ReadsAs, circuit, refusal}
@@ -8,7 +8,7 @@ use Rattle.demo_text.specs.Generator.{demo_text}
 use Rattle.demo_reads.specs.Drawn.{drawn_circuit}
 use Rattle.demo_reads.proofs.Acting.{demo_statements, HasStatements}
 use Rattle.demo_reads.proofs.Lines.{demo_has}
-use Rattle.demo_reads.proofs.Parting.{of_spelling, read_all, demo_parts}
+use Rattle.demo_reads.proofs.Parting.{demo_parts}
 use Rattle.demo_reads.proofs.Reading.{demo_reads}
 use Rattle.demo_reads.proofs.Says.{apart}
 
@@ -19,7 +19,7 @@ demo_states q n seed some le =
     record {
       tokens = h.tokens;
       are_tokens = h.are_tokens;
-      are_parts = ap (λ l. parts_of l None) (read_all (demo_text q n seed) h.tokens ∙ ap (map of_spelling) h.are_lexemes) ∙ demo_parts q n seed;
+      are_parts = ap (λ l. parts_of l None) h.are_lexemes ∙ demo_parts q n seed;
     }
 
 -- the text reads as the circuit of its calls

@@ -4,14 +4,12 @@ use Rattle.gate_set.specs.declared.kind.Kind.{Kind}
 use Rattle.gate_set.specs.declared.kind.Kind.TheVariants.{Id}
 use Rattle.gate_set.specs.declared.gate.Gate.{Gate}
 use Rattle.gate_set.specs.Circuits.{Circuit}
-use Rattle.qasm_reader.specs.declared.builtin.Builtin.{Builtin}
-use Rattle.qasm_reader.specs.declared.builtin.Builtin.TheVariants.{Gate as plain}
-use Rattle.qasm_reader.specs.Calls.{builtin}
+use Rattle.qasm_reader.specs.Calls.{Named, gate, builtin}
 use Rattle.demo_text.specs.Generator.{Call, demo_calls}
 
 -- the kind of a name's gate; each name that is drawn has one
-abbrev pub kind_in : Option Builtin → Kind
-kind_in (Some (plain kind)) = kind
+abbrev pub kind_in : Option Named → Kind
+kind_in (Some (gate kind)) = kind
 kind_in _ = Id
 
 -- the gate of a call: its name's kind, on its qubits

@@ -11,7 +11,7 @@ use Rattle.qasm_lex.specs.declared.token.TokenKind.TheVariants.{Word, Whole, Rea
 use Rattle.qasm_lex.specs.declared.pieces.Form.{Form}
 use Rattle.qasm_lex.specs.declared.pieces.Form.TheVariants.{Blank, Comment, Token as OfKind}
 use Rattle.qasm_lex.specs.Bytes.{class_of}
-use Rattle.qasm_lex.specs.Scan.{piece_of, run}
+use Rattle.qasm_lex.specs.Private.Scan.{piece_of, run}
 use Rattle.qasm_lex.specs.declared.bytes.Part.TheVariants.{Commented}
 use Rattle.qasm_lex.specs.Lexemes.{Spells, Begins, BeginsNone, Piece, IsPiece, Cut, token_of, Ends, AreTokens}
 use Rattle.qasm_lex.proofs.Front.{begins, begins_none, begins_is}

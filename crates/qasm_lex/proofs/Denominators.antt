@@ -1,14 +1,14 @@
 -- The denominators of values are positive.
-use Rattle.std.proofs.Common.{◌≡◌, sym, refl, subst, ℕ, Bool, true, false, cond, nat_eq, nat_le, List, Option, Some, None, Result, Ok, Err, arith, ℤ, pos, ◌≤ℤ◌, ◌*ℤ◌, unsigned_abs}
+use Rattle.std.proofs.Common.{◌≡◌, ◌∙◌, sym, ap, refl, subst, ℕ, Bool, true, false, cond, nat_eq, nat_le, List, Option, Some, None, Result, Ok, Err, arith, ℤ, pos, ◌≤ℤ◌, ◌*ℤ◌, unsigned_abs}
 use Rattle.std.proofs.lemmas.Int.{ints}
 use Rattle.qasm_lex.specs.declared.symbol.Symbol.{Symbol}
 use Rattle.qasm_lex.specs.declared.value.Value.{Value}
 use Rattle.qasm_lex.specs.declared.refusal.AngleRefusal.{AngleRefusal}
-use Rattle.qasm_lex.specs.declared.refusal.AngleRefusal.TheVariants.{NotExact, ZeroDivisor, TooWide, TooLong, Malformed}
+use Rattle.qasm_lex.specs.declared.refusal.AngleRefusal.TheVariants.{NotExact, ZeroDivisor, TooWide}
 use Rattle.qasm_lex.specs.Fractions.{Ratio, most, lowest, fraction, is_zero, is_narrow, reciprocal, ratio_sum, ratio_product}
 use Rattle.qasm_lex.specs.Expressions.{Tree, whole, real, pi, plus, minus, times, over, opposite, raised, called, group, eval}
 use Rattle.qasm_lex.specs.Values.{Outcome, values, both, then, value_of, value_sum, value_difference, value_product, value_quotient, scaled, negative_value, whole_value, number_of, multiple_of}
-use Rattle.qasm_lex.specs.Angles.{IsAnswer, too_long, malformed, evaluated}
+use Rattle.qasm_lex.specs.Angles.{value_in, IsAnswer}
 use Rattle.qasm_lex.proofs.FractionLemmas.{lowest_den, product_positive}
 
 -- a fraction that there is has a positive denominator
@@ -124,8 +124,12 @@ multiple_positive (Ok x) p = by (is_zero x.u)
     by false = tt
 multiple_positive (Err e) p = tt
 
+-- the value of any shape
+shape_positive : (shape : Result Tree AngleRefusal) → MayBePositive (value_in shape)
+shape_positive (Ok t) = eval_positive t
+shape_positive (Err e) = tt
+
 -- so the fraction that is answered has a positive denominator
 pub answer_positive : (symbols : List Symbol) (f : Ratio) → IsAnswer symbols (Ok f) → pos 1 ≤ℤ f.den
-answer_positive symbols f (too_long l e) = absurd (let q : Ok f ≡ Err TooLong = e in cc)
-answer_positive symbols f (malformed l n e) = absurd (let q : Ok f ≡ Err Malformed = e in cc)
-answer_positive symbols f (evaluated l t x e) = subst Positive (sym e) (multiple_positive (eval values t) (eval_positive t))
+answer_positive symbols f a =
+    subst Positive (sym (a.multiple ∙ ap multiple_of a.is_outcome.value)) (multiple_positive (value_in a.is_outcome.shape) (shape_positive a.is_outcome.shape))

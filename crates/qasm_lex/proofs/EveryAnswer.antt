@@ -8,16 +8,16 @@ use Rattle.qasm_lex.specs.declared.symbol.Symbol.{Symbol}
 use Rattle.qasm_lex.specs.declared.refusal.AngleRefusal.{AngleRefusal}
 use Rattle.qasm_lex.specs.declared.refusal.AngleRefusal.TheVariants.{TooLong}
 use Rattle.qasm_lex.specs.Fractions.{Ratio}
-use Rattle.qasm_lex.specs.Angles.{IsAnswer, too_long}
+use Rattle.qasm_lex.specs.Angles.{IsAnswer}
 use Rattle.qasm_lex.specs.Quarters.{IsQuarters}
-use Rattle.qasm_lex.specs.Descent.{parsed, expr, whole_of, answer_from}
-use Rattle.qasm_lex.proofs.AngleLemmas.{answer_is}
+use Rattle.qasm_lex.specs.Private.Descent.{parsed, expr, whole_of, answer_from}
+use Rattle.qasm_lex.proofs.AngleLemmas.{answer_is, long_is}
 use Rattle.qasm_lex.proofs.QuarterLemmas.{quotient_of, modulo_eight, modulo_eight_natural}
 
 -- symbols have an answer
 pub every_answer : (symbols : List Symbol) → (answer : Result Ratio AngleRefusal) × IsAnswer symbols answer
 every_answer symbols = elim (cases_lt 64 (length symbols)) [
-  | inl h ↦ (Err TooLong, too_long h refl)
+  | inl h ↦ (Err TooLong, long_is symbols h)
   | inr h ↦ (answer_from (whole_of (parsed expr symbols)), answer_is symbols (omega arith))
 ]
 

@@ -8,8 +8,9 @@ use Rattle.qasm_lex.specs.declared.bytes.Part.TheVariants.{Words, Digits, Quoted
 use Rattle.qasm_lex.specs.declared.token.TokenKind.TheVariants.{Word, Whole, Real, Text, Arrow, Equal, Mark}
 use Rattle.qasm_lex.specs.declared.pieces.Form.{Form}
 use Rattle.qasm_lex.specs.declared.pieces.Form.TheVariants.{Blank, Comment, Token}
-use Rattle.qasm_lex.specs.Bytes.{class_of, is_letter, is_mark, is_blank, is_quote, is_greater, is_equals, is_slash}
-use Rattle.qasm_lex.specs.Scan.{run, number, quoted, closed, after_minus, after_equals, after_slash, piece_at, piece_of}
+use Rattle.qasm_lex.specs.Bytes.{class_of, is_letter, is_mark, is_blank}
+use Rattle.qasm_lex.specs.Private.Scan.{is_quote, is_greater, is_equals, is_slash}
+use Rattle.qasm_lex.specs.Private.Scan.{run, number, quoted, closed, after_minus, after_equals, after_slash, piece_at, piece_of}
 use Rattle.qasm_lex.specs.Lexemes.{IsRun, IsPointed, IsScaled, Spells, Begins, BeginsNone}
 use Rattle.qasm_lex.proofs.Classes.{digit_is, quote_is, greater_is, equals_is, slash_is}
 use Rattle.qasm_lex.proofs.Runs.{run_is, run_reaches, run_exact, run_within}

@@ -1,15 +1,12 @@
--- Numbers in decimal.
-use Rattle.std.proofs.Common.{◌≡◌, ◌∙◌, sym, ap, refl, ◌≤◌, ◌<◌, ℕ, zero, suc, ◌+◌, ◌-◌, ◌*◌, ◌^◌, Bool, true, false, cond, nat_eq, nat_le, ◌||◌, List, [], ◌∷◌, length, arith, subst, Some, None, pos, to_z}
-use Rattle.std.proofs.lemmas.Bool.{and_parts, leb-true}
+-- Numbers in decimal, digit by digit, and below a bound.
+use Rattle.std.proofs.Common.{◌≡◌, ◌∙◌, sym, ap, refl, ◌≤◌, ◌<◌, ℕ, zero, suc, ◌+◌, ◌-◌, ◌*◌, ◌^◌, Bool, true, false, cond, nat_lt, List, [], ◌∷◌, length, arith, subst, Option, Some, None, pos, to_z}
+use Rattle.std.proofs.lemmas.Bool.{ltb-true, ltb-false}
+use Rattle.std.proofs.lemmas.Bool.Decides.{nat_tests}
 use Rattle.std.proofs.lemmas.Int.{to_z_pos}
 use Rattle.std.specs.Int.{w64}
 use Rattle.std.proofs.Math.Nat.{pow-suc, le-mul_of_pos_right}
-use Rattle.qasm_lex.specs.declared.bytes.Class.{Class}
-use Rattle.qasm_lex.specs.declared.bytes.Class.TheVariants.{Letter, LetterE, Digit, Underscore, Point, Quote, Plus, Minus, Greater, Equals, Slash, LineFeed, Blank, Mark, Other}
-use Rattle.qasm_lex.specs.declared.bytes.Part.TheVariants.{Digits}
-use Rattle.qasm_lex.specs.Bytes.{class_of, in_part, between}
 use Rattle.qasm_lex.specs.Fractions.{most}
-use Rattle.qasm_lex.specs.Symbols.{decimal, narrow_number}
+use Rattle.qasm_lex.specs.Symbols.{decimal, number_below, narrow_number}
 
 ten_pos : (k : ℕ) → 0 < 10 ^ k
 ten_pos zero = omega arith
@@ -25,51 +22,51 @@ decimal_next value whole d rest after e h =
     let m : value * 10 ^ suc (length after) ≡ value * (10 ^ length after * 10) = ap (λ x. value * x) p in
     grind arith
 
--- too great already
-pub decimal_over : (value n k whole : ℕ) → most < value → value * 10 ^ k + n ≡ whole → most < whole
-decimal_over value n k whole h e = let p = ten_pos k in let m : value ≤ value * 10 ^ k = le-mul_of_pos_right value p in omega arith
-
 pub decimal_end : (value whole : ℕ) (rest : List ℕ) → length rest ≡ 0 → value * 10 ^ length rest + decimal rest ≡ whole → value ≡ whole
 unfolding decimal
 decimal_end value whole [] e h = omega arith
 decimal_end value whole (d ∷ rest) e h = absurd (omega arith)
 
-pub narrow_none : (n : ℕ) → most < n → narrow_number n ≡ None
-narrow_none n h = grind arith
+-- great enough already
+pub great_already : (value n k whole bound : ℕ) → bound ≤ value → value * 10 ^ k + n ≡ whole → bound ≤ whole
+great_already value n k whole bound h e = let p = ten_pos k in let m : value ≤ value * 10 ^ k = le-mul_of_pos_right value p in omega arith
 
-pub narrow_some : (n : ℕ) → n ≤ most → narrow_number n ≡ Some (pos n)
-narrow_some n h = grind arith
+not_less : (n bound : ℕ) → bound ≤ n → nat_lt n bound ≡ false
+not_less n bound h = grind (arith, nat_tests)
 
-no_digit : in_part Digits Other ≡ true → ⊥
-no_digit h = absurd cc
+less : (n bound : ℕ) → n < bound → nat_lt n bound ≡ true
+less n bound h = grind (arith, nat_tests)
 
--- a class that is no digit's is passed over
-passed : (t : Bool) (x y : Class) → in_part Digits x ≡ false → in_part Digits (cond t x y) ≡ true → in_part Digits y ≡ true
-passed true x y n h = absurd cc
-passed false x y n h = h
+pub none_below : (n bound : ℕ) → bound ≤ n → None ≡ number_below n bound
+none_below n bound h = sym (ap (λ x. cond x (Some n) None) (not_less n bound h))
 
-digit_or : (t : Bool) (b : ℕ) (y : Class) → between 48 57 b ≡ t → (in_part Digits y ≡ true → ⊥) → in_part Digits (cond t Digit y) ≡ true → 48 ≤ b
-digit_or true b y e n h = let p = and_parts (nat_le 48 b) (nat_le b 57) e in leb-true 48 b p.0
-digit_or false b y e n h = absurd (n h)
+pub some_below : (value n bound : ℕ) → value ≡ n → value < bound → Some value ≡ number_below n bound
+some_below value n bound e h = ap Some e ∙ sym (ap (λ x. cond x (Some n) None) (less n bound (let q = e in omega arith)))
 
-pub digit_least : (b : ℕ) → in_part Digits (class_of b) ≡ true → 48 ≤ b
-unfolding class_of
-digit_least b h =
-    digit_or (between 48 57 b) b _ refl
-    (λ r. let u = passed (nat_eq b 95) Underscore _ refl r in
-    let p = passed (nat_eq b 46) Point _ refl u in
-    let q = passed (nat_eq b 34) Quote _ refl p in
-    let l = passed (nat_eq b 43) Plus _ refl q in
-    let m = passed (nat_eq b 45) Minus _ refl l in
-    let g = passed (nat_eq b 62) Greater _ refl m in
-    let e = passed (nat_eq b 61) Equals _ refl g in
-    let s = passed (nat_eq b 47) Slash _ refl e in
-    let f = passed (nat_eq b 10) LineFeed _ refl s in
-    let k = passed (nat_eq b 32 || (nat_eq b 9 || nat_eq b 13)) Blank _ refl f in
-    let n = passed (nat_eq b 59 || (nat_eq b 44 || (nat_eq b 40 || (nat_eq b 41 || (nat_eq b 91 || (nat_eq b 93 || (nat_eq b 123 || (nat_eq b 125 || (nat_eq b 42 || nat_eq b 94))))))))) Mark Other refl k in
-    no_digit n)
-    (passed (between 97 122 b || between 65 90 b) Letter _ refl (passed (nat_eq b 101 || nat_eq b 69) LetterE _ refl h))
+-- what a number below a bound is
+pub below_some : (n bound m : ℕ) → Some m ≡ number_below n bound → (m ≡ n) × (n < bound)
+below_some n bound m e = by (nat_lt n bound) (ltb-true n bound) e
+  where
+    by : (b : Bool) → (b ≡ true → n < bound) → Some m ≡ cond b (Some n) None → (m ≡ n) × (n < bound)
+    by true h e = (cc, h refl)
+    by false h e = absurd cc
 
--- what the code's cast gives
-pub to_z_some : (n m : ℕ) → n ≡ m → n ≤ most → Some (to_z w64 n) ≡ narrow_number m
-to_z_some n m e h = ap Some (to_z_pos w64 n (omega arith) ∙ ap pos e) ∙ sym (narrow_some m (omega arith))
+pub below_none : (n bound : ℕ) → None ≡ number_below n bound → bound ≤ n
+below_none n bound e = by (nat_lt n bound) (ltb-false n bound) e
+  where
+    by : (b : Bool) → (b ≡ false → bound ≤ n) → None ≡ cond b (Some n) None → bound ≤ n
+    by true h e = absurd cc
+    by false h e = h refl
+
+-- the number of an angle, by its cast
+pub narrow_some : (n m : ℕ) → Some m ≡ number_below n 9223372036854775808 → Some (to_z w64 m) ≡ narrow_number n
+narrow_some n m e = let p = below_some n 9223372036854775808 m e in ap Some (to_z_pos w64 m (omega arith) ∙ ap pos p.0) ∙ sym (narrow n (omega arith))
+  where
+    narrow : (n : ℕ) → n ≤ most → narrow_number n ≡ Some (pos n)
+    narrow n h = grind arith
+
+pub narrow_none : (n : ℕ) → None ≡ number_below n 9223372036854775808 → None ≡ narrow_number n
+narrow_none n e = let h = below_none n 9223372036854775808 e in sym (wide n (omega arith))
+  where
+    wide : (n : ℕ) → most < n → narrow_number n ≡ None
+    wide n h = grind arith

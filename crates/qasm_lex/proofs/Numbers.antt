@@ -9,8 +9,9 @@ use Rattle.qasm_lex.specs.declared.bytes.Part.TheVariants.{Digits}
 use Rattle.qasm_lex.specs.declared.token.TokenKind.TheVariants.{Whole, Real}
 use Rattle.qasm_lex.specs.declared.pieces.Form.{Form}
 use Rattle.qasm_lex.specs.declared.pieces.Form.TheVariants.{Token}
-use Rattle.qasm_lex.specs.Bytes.{class_of, in_part, is_sign, is_e, is_point}
-use Rattle.qasm_lex.specs.Scan.{run, sign, exponent, number, at_point, with_point, without_point}
+use Rattle.qasm_lex.specs.Bytes.{class_of, in_part, is_sign}
+use Rattle.qasm_lex.specs.Private.Scan.{is_e, is_point}
+use Rattle.qasm_lex.specs.Private.Scan.{run, sign, exponent, number, at_point, with_point, without_point}
 use Rattle.qasm_lex.specs.Lexemes.{IsRun, IsSign, IsWhole, IsExponent, MayBeExponent, IsPointed, IsScaled, Spells}
 use Rattle.qasm_lex.proofs.Classes.{e_is, digit_is, point_is}
 use Rattle.qasm_lex.proofs.Runs.{run_is, run_reaches, run_exact, run_within, run_more, Stops}

@@ -1,22 +1,28 @@
 -- An angle has one answer.
-use Rattle.std.proofs.Common.{◌≡◌, ◌∙◌, sym, ◌≤◌, ◌<◌, ◌⊎◌, inl, inr, ℕ, zero, suc, List, length, Result, arith}
+use Rattle.std.proofs.Common.{◌≡◌, ◌∙◌, sym, ap, List, Result, Ok, arith}
 use Rattle.qasm_lex.specs.declared.symbol.Symbol.{Symbol}
 use Rattle.qasm_lex.specs.declared.refusal.AngleRefusal.{AngleRefusal}
 use Rattle.qasm_lex.specs.Fractions.{Ratio}
-use Rattle.qasm_lex.specs.Angles.{IsAnswer}
-use Rattle.qasm_lex.proofs.AngleLemmas.{answer_only, long_only}
+use Rattle.qasm_lex.specs.Expressions.{Tree}
+use Rattle.qasm_lex.specs.Values.{multiple_of}
+use Rattle.qasm_lex.specs.Angles.{IsShape, too_long, malformed, expression, value_in, IsAnswer}
+use Rattle.qasm_lex.proofs.Whole.{unambiguous}
 
-within_or_above : (n m : ℕ) → (n ≤ m) ⊎ (m < n)
-within_or_above zero m = inl (omega arith)
-within_or_above (suc n) zero = inr (omega arith)
-within_or_above (suc n) (suc m) = elim (within_or_above n m) [
-  | inl h ↦ inl (omega arith)
-  | inr h ↦ inr (omega arith)
-]
+-- symbols have one shape
+one_shape : (s : List Symbol) (a b : Result Tree AngleRefusal) → IsShape s a → IsShape s b → a ≡ b
+one_shape s a b (too_long l e) (too_long m f) = e ∙ sym f
+one_shape s a b (too_long l e) (malformed m n f) = absurd (omega arith)
+one_shape s a b (too_long l e) (expression m t x f) = absurd (omega arith)
+one_shape s a b (malformed l n e) (too_long m f) = absurd (omega arith)
+one_shape s a b (malformed l n e) (malformed m o f) = e ∙ sym f
+one_shape s a b (malformed l n e) (expression m t x f) = absurd (n t x)
+one_shape s a b (expression l t x e) (too_long m f) = absurd (omega arith)
+one_shape s a b (expression l t x e) (malformed m n f) = absurd (n t x)
+one_shape s a b (expression l t x e) (expression m u y f) = e ∙ ap Ok (unambiguous t u x.formed y.formed (sym x.spelled ∙ y.spelled)) ∙ sym f
 
--- symbols have one answer
+-- and one answer
 pub one_answer : (symbols : List Symbol) (a b : Result Ratio AngleRefusal) → IsAnswer symbols a → IsAnswer symbols b → a ≡ b
-one_answer symbols a b p q = elim (within_or_above (length symbols) 64) [
-  | inl h ↦ answer_only symbols a h p ∙ sym (answer_only symbols b h q)
-  | inr h ↦ long_only symbols a h p ∙ sym (long_only symbols b h q)
-]
+one_answer symbols a b p q =
+    p.multiple
+    ∙ ap multiple_of (p.is_outcome.value ∙ ap value_in (one_shape symbols p.is_outcome.shape q.is_outcome.shape p.is_outcome.is_shape q.is_outcome.is_shape) ∙ sym q.is_outcome.value)
+    ∙ sym q.multiple

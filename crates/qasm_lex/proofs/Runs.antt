@@ -3,7 +3,7 @@ use Rattle.std.proofs.Common.{◌≡◌, ◌∙◌, ap, refl, ◌≤◌, ◌<◌
 use Rattle.std.proofs.Math.Seq.{drop-cons}
 use Rattle.qasm_lex.specs.declared.bytes.Part.{Part}
 use Rattle.qasm_lex.specs.Bytes.{class_of, in_part}
-use Rattle.qasm_lex.specs.Scan.{run}
+use Rattle.qasm_lex.specs.Private.Scan.{run}
 use Rattle.qasm_lex.specs.Lexemes.{IsRun}
 
 pub run_more : (part : Part) (b : ℕ) (bs : List ℕ) → in_part part (class_of b) ≡ true → run part (b ∷ bs) ≡ run part bs + 1

@@ -3,7 +3,7 @@ use Rattle.std.proofs.Common.{◌≡◌, ◌∙◌, sym, ap, refl, ◌≤◌, �
 use Rattle.qasm_lex.specs.declared.symbol.Symbol.{Symbol}
 use Rattle.qasm_lex.specs.declared.symbol.Symbol.TheVariants.{Whole, Real, Pi, Function, Plus, Minus, Times, Over, Caret, Open, Close}
 use Rattle.qasm_lex.specs.Expressions.{Tree, whole, real, pi, plus, minus, times, over, opposite, raised, called, group, spelling, rank, Formed, Algebra, eval}
-use Rattle.qasm_lex.specs.Descent.{Goal, expr, terms, term, factors, factor, power, raise, atom, Found, next, close, parse}
+use Rattle.qasm_lex.specs.Private.Descent.{Goal, expr, terms, term, factors, factor, power, raise, atom, Found, next, close, parse}
 
 -- a tree of this rank or a higher one spells the front, and has this value
 pub record Spelled {X : Type 0} (o : Algebra X) (k : ℕ) (s : List Symbol) (v : X) (r : List Symbol) : Type 0 where

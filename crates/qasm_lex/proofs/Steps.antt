@@ -3,7 +3,7 @@ use Rattle.std.proofs.Common.{◌≡◌, ◌∙◌, sym, ap, refl, ◌≤◌, �
 use Rattle.qasm_lex.specs.declared.symbol.Symbol.{Symbol}
 use Rattle.qasm_lex.specs.declared.symbol.Symbol.TheVariants.{Whole, Real, Pi, Function, Plus, Minus, Times, Over, Caret, Open, Close}
 use Rattle.qasm_lex.specs.Values.{Outcome, values}
-use Rattle.qasm_lex.specs.Descent.{Goal, expr, terms, term, factors, factor, power, raise, atom, Found, next, close, parse, bound, parsed}
+use Rattle.qasm_lex.specs.Private.Descent.{Goal, expr, terms, term, factors, factor, power, raise, atom, Found, next, close, parse, bound, parsed}
 
 abbrev least : Goal Outcome → ℕ
 least (terms v) = 0

@@ -3,7 +3,7 @@ use Rattle.std.proofs.Common.{◌≡◌, ◌∙◌, sym, ap, refl, ℕ, ◌+◌,
 use Rattle.qasm_lex.specs.declared.symbol.Symbol.{Symbol}
 use Rattle.qasm_lex.specs.Expressions.{Tree, whole, real, pi, plus, minus, times, over, opposite, raised, called, group, Formed, Algebra, spelling, eval}
 use Rattle.qasm_lex.specs.Values.{values, Outcome}
-use Rattle.qasm_lex.specs.Descent.{expr, parse, parsed, Found, ended, whole_of}
+use Rattle.qasm_lex.specs.Private.Descent.{expr, parse, parsed, Found, ended, whole_of}
 use Rattle.qasm_lex.proofs.Complete.{ladder, expr_ends}
 use Rattle.qasm_lex.proofs.Sound.{sound, GoodFound}
 

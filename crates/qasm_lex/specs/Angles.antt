@@ -1,30 +1,40 @@
--- The answer to the tokens of an angle.
-use Rattle.std.specs.Prelude.{◌≡◌, ◌≤◌, ◌<◌, ℕ, List, map, length, Result, Ok, Err}
-use Rattle.qasm_lex.specs.declared.token.Token.{Token}
+-- The answer to the symbols of an angle, in three steps: its shape, its value, and the multiple of π that the value is.
+use Rattle.std.specs.Prelude.{◌≡◌, ◌≤◌, ◌<◌, List, length, Result, Ok, Err}
 use Rattle.qasm_lex.specs.declared.symbol.Symbol.{Symbol}
 use Rattle.qasm_lex.specs.declared.refusal.AngleRefusal.{AngleRefusal}
 use Rattle.qasm_lex.specs.declared.refusal.AngleRefusal.TheVariants.{TooLong, Malformed}
 use Rattle.qasm_lex.specs.declared.pi_fraction.PiFraction.{PiFraction}
-use Rattle.qasm_lex.specs.Lexemes.{lexeme}
-use Rattle.qasm_lex.specs.Symbols.{symbol_of}
 use Rattle.qasm_lex.specs.Fractions.{Ratio}
 use Rattle.qasm_lex.specs.Expressions.{Tree, Formed, spelling, eval}
-use Rattle.qasm_lex.specs.Values.{values, multiple_of}
-
--- what the tokens of a text stand for
-abbrev pub symbols_of : List ℕ → List Token → List Symbol
-symbols_of text tokens = map (λ t. symbol_of (lexeme text t)) tokens
+use Rattle.qasm_lex.specs.Values.{Outcome, values, multiple_of}
 
 -- the symbols are those of an expression
 pub record IsExpression (symbols : List Symbol) (tree : Tree) : Type 0 where
   pub formed : Formed tree
   pub spelled : symbols ≡ spelling tree
 
--- the answer to the symbols of an angle: the length first, then the shape, then the value from the left
-pub data IsAnswer (symbols : List Symbol) (answer : Result Ratio AngleRefusal) : Type 0 where
-  too_long : 64 < length symbols → answer ≡ Err TooLong → IsAnswer symbols answer
-  malformed : length symbols ≤ 64 → ((tree : Tree) → IsExpression symbols tree → ⊥) → answer ≡ Err Malformed → IsAnswer symbols answer
-  evaluated : length symbols ≤ 64 → (tree : Tree) → IsExpression symbols tree → answer ≡ multiple_of (eval values tree) → IsAnswer symbols answer
+-- the shape of an angle: an expression of at most 64 symbols. Their number is judged first
+pub data IsShape (symbols : List Symbol) (shape : Result Tree AngleRefusal) : Type 0 where
+  too_long : 64 < length symbols → shape ≡ Err TooLong → IsShape symbols shape
+  malformed : length symbols ≤ 64 → ((tree : Tree) → IsExpression symbols tree → ⊥) → shape ≡ Err Malformed → IsShape symbols shape
+  expression : length symbols ≤ 64 → (tree : Tree) → IsExpression symbols tree → shape ≡ Ok tree → IsShape symbols shape
+
+-- the value of a shape
+abbrev pub value_in : Result Tree AngleRefusal → Outcome
+value_in (Ok tree) = eval values tree
+value_in (Err e) = Err e
+
+-- the value of an angle, or the refusal that is met first
+pub record IsOutcome (symbols : List Symbol) (outcome : Outcome) : Type 0 where
+  pub shape : Result Tree AngleRefusal
+  pub is_shape : IsShape symbols shape
+  pub value : outcome ≡ value_in shape
+
+-- the multiple of π that an angle is, or the refusal that is met first
+pub record IsAnswer (symbols : List Symbol) (answer : Result Ratio AngleRefusal) : Type 0 where
+  pub outcome : Outcome
+  pub is_outcome : IsOutcome symbols outcome
+  pub multiple : answer ≡ multiple_of outcome
 
 -- the fraction by its numbers
 abbrev pub ratio_of : PiFraction → Ratio

@@ -1,5 +1,5 @@
 -- How bytes spell the tokens, blanks and comments of OpenQASM 2.0, and how a text is cut into them.
-use Rattle.std.specs.Prelude.{◌≡◌, ◌⊎◌, ℕ, ◌+◌, ◌-◌, ◌≤◌, ◌<◌, Bool, true, List, [], ◌∷◌, ◌++◌, length, drop, take, Option, Some, None}
+use Rattle.std.specs.Prelude.{◌≡◌, ◌⊎◌, ℕ, ◌+◌, ◌-◌, ◌≤◌, ◌<◌, Bool, true, List, [], ◌∷◌, ◌++◌, length, map, drop, take, Option, Some, None}
 use Rattle.std.specs.List.{AllByRecursion, filter_map, slice_range}
 use Rattle.qasm_lex.specs.declared.bytes.Class.{Class}
 use Rattle.qasm_lex.specs.declared.bytes.Class.TheVariants.{Digit, LetterE, Point, Quote, Minus, Greater, Equals, Slash}
@@ -134,18 +134,35 @@ pub record AreTokens (text : List ℕ) (tokens : List Token) (bad : Option ℕ) 
   pub tokens_are : tokens ≡ filter_map token_of pieces
   pub ends : Ends text stop bad
 
--- the tokens stand in the text, one after the other
-pub record AreOfText (text : List ℕ) (tokens : List Token) : Type 0 where
-  pub before : List Token
-  pub after : List Token
-  pub bad : Option ℕ
-  pub among : AreTokens text (before ++ (tokens ++ after)) bad
+-- the token's places are places of the text
+pub record IsWithin (text : List ℕ) (t : Token) : Type 0 where
+  pub forward : t.from ≤ t.to
+  pub within : t.to ≤ length text
 
--- a token as its kind and its bytes
-pub record Lexeme : Type 0 where
-  pub kind : TokenKind
-  pub bytes : List ℕ
+-- a token by what it is, with its bytes where its kind leaves a choice of them
+pub data Lexeme : Type 0 where
+  word : List ℕ → Lexeme
+  whole : List ℕ → Lexeme
+  real : List ℕ → Lexeme
+  quoted : List ℕ → Lexeme
+  arrow : Lexeme
+  equal : Lexeme
+  mark : ℕ → Lexeme
+
+-- the lexeme of a kind and its bytes
+abbrev pub of_kind : TokenKind → List ℕ → Lexeme
+of_kind Word bytes = word bytes
+of_kind Whole bytes = whole bytes
+of_kind Real bytes = real bytes
+of_kind Text bytes = quoted bytes
+of_kind Arrow bytes = arrow
+of_kind Equal bytes = equal
+of_kind (Mark b) bytes = mark b
 
 -- the lexeme that a token of the text is
-abbrev pub lexeme : List ℕ → Token → Lexeme
-lexeme text t = record { kind = t.kind; bytes = slice_range text t.from t.to }
+abbrev pub lexeme_of : List ℕ → Token → Lexeme
+lexeme_of text t = of_kind t.kind (slice_range text t.from t.to)
+
+-- the lexemes of tokens
+abbrev pub lexemes_of : List ℕ → List Token → List Lexeme
+lexemes_of text tokens = map (lexeme_of text) tokens

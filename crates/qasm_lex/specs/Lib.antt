@@ -1,10 +1,10 @@
+pub mod Characters
 pub mod Bytes
-pub mod Scan
 pub mod Lexemes
 pub mod Fractions
 pub mod Expressions
 pub mod Values
-pub mod Descent
 pub mod Symbols
 pub mod Angles
 pub mod Quarters
+pub mod Private

@@ -1,11 +1,11 @@
 //! Angles, from the tokens of a text.
-ghost use Rattle.std.specs.Prelude.{◌≡◌, ◌≤◌, List, Result, length};
-ghost use Rattle.qasm_lex.specs.declared.token.Token.{Token};
+ghost use Rattle.std.specs.Prelude.{◌≡◌, ◌≤◌, All, Result, length};
 ghost use Rattle.qasm_lex.specs.declared.refusal.AngleRefusal.{AngleRefusal};
-ghost use Rattle.qasm_lex.specs.Lexemes.{AreOfText};
+ghost use Rattle.qasm_lex.specs.Lexemes.{IsWithin, lexemes_of};
 ghost use Rattle.qasm_lex.specs.Fractions.{Ratio};
-ghost use Rattle.qasm_lex.specs.Descent.{parsed, expr, whole_of, answer_from};
-ghost use Rattle.qasm_lex.specs.Angles.{symbols_of, IsAnswer, answer_of};
+ghost use Rattle.qasm_lex.specs.Private.Descent.{parsed, expr, whole_of, answer_from};
+ghost use Rattle.qasm_lex.specs.Symbols.{symbols};
+ghost use Rattle.qasm_lex.specs.Angles.{IsAnswer, answer_of};
 
 use crate::descent::value_of;
 use crate::pi_fraction::PiFraction;
@@ -20,9 +20,9 @@ const LONGEST: usize = 64;
 
 /// What the tokens stand for.
 fn symbols_of(text: &[u8], list: &[Token]) -> ArrayVec<Symbol, LONGEST>
-    requires of_text { AreOfText text.now list.now }
+    requires of_text { All (IsWithin text.now) list.now }
     requires short { length list.now ≤ 64 }
-    ensures { result.items ≡ symbols_of text.now list.now }
+    ensures { result.items ≡ symbols (lexemes_of text.now list.now) }
 {
     let mut symbols = ArrayVec::new();
     for token in list {
@@ -46,9 +46,9 @@ fn fraction_of(symbols: &[Symbol]) -> Result<PiFraction, AngleRefusal>
 /// Numbers, `pi`, `+`, `-`, `*`, `/` and parentheses are exact. The work is linear in the bytes of the tokens. It takes no
 /// memory, and its depth is bounded by the 64 tokens.
 pub fn angle(text: &[u8], list: &[Token]) -> Result<PiFraction, AngleRefusal>
-    requires { AreOfText text.now list.now }
-    ensures answer { IsAnswer (symbols_of text.now list.now) (answer_of result) }
-    ensures only { (answer : Result Ratio AngleRefusal) → IsAnswer (symbols_of text.now list.now) answer → answer ≡ answer_of result }
+    requires { All (IsWithin text.now) list.now }
+    ensures answer { IsAnswer (symbols (lexemes_of text.now list.now)) (answer_of result) }
+    ensures only { (answer : Result Ratio AngleRefusal) → IsAnswer (symbols (lexemes_of text.now list.now)) answer → answer ≡ answer_of result }
 {
     if list.len() > LONGEST {
         return Err(AngleRefusal::TooLong);

@@ -2,7 +2,7 @@
 //!
 //! A refusal is carried on as a value, so that a wrong shape anywhere in the expression is told before it.
 ghost use Rattle.std.specs.Prelude.{◌≡◌, ◌<◌, length, IfSome};
-ghost use Rattle.qasm_lex.specs.Descent.{parsed, seen, close, expr, term, factor, power, atom, whole_of};
+ghost use Rattle.qasm_lex.specs.Private.Descent.{parsed, seen, close, expr, term, factor, power, atom, whole_of};
 
 use crate::refusal::AngleRefusal;
 use crate::symbol::Symbol;

@@ -29,8 +29,10 @@ pub use laws::{
     every_text_has_tokens, expressions_are_unambiguous, lowest_terms, lowest_terms_are_unique,
     quarters_are_unique, slashes_begin_a_comment, tokens_are_at_most_the_bytes, tokens_are_unique,
 };
+pub use number::number_below;
 pub use pi_fraction::PiFraction;
 pub use quarters::quarter;
 pub use refusal::AngleRefusal;
 pub use scanning::tokens;
+pub use symbol::is_one_of;
 pub use token::{Token, TokenKind, Tokens};

@@ -1,39 +1,46 @@
 //! Whole numbers in decimal.
-ghost use Rattle.std.specs.Prelude.{◌≡◌, ◌≤◌, ◌+◌, ◌-◌, ◌*◌, ◌<◌, IfSome, IfNone};
-ghost use Rattle.qasm_lex.specs.declared.bytes.Class.TheVariants.{Digit};
-ghost use Rattle.qasm_lex.specs.declared.bytes.Part.TheVariants.{Digits};
-ghost use Rattle.qasm_lex.specs.Bytes.{class_of};
-ghost use Rattle.qasm_lex.specs.Fractions.{most};
-ghost use Rattle.qasm_lex.specs.Lexemes.{IsRun};
-ghost use Rattle.qasm_lex.specs.Symbols.{decimal, narrow_number};
+ghost use Rattle.std.specs.Prelude.{◌≡◌, ◌≤◌, ◌+◌, ◌-◌, ◌*◌, ◌<◌, IfSome};
+ghost use Rattle.qasm_lex.specs.Symbols.{decimal, number_below, narrow_number};
 
-/// The greatest number.
-const MOST: u128 = 9223372036854775807;
+/// One more than the greatest number of an angle, which is 2^63 - 1.
+const PAST_NUMBERS: u64 = 9223372036854775808;
 
-/// The number with one more digit, where it isn't too great.
-fn longer(value: u64, digit: u8) -> Option<u64>
-    requires { 48 ≤ digit }
-    ensures value { IfSome result (λ v. (v ≡ value * 10 + (digit - 48)) × (v ≤ most)) }
-    ensures over { IfNone result (most < value * 10 + (digit - 48)) }
+fn digit_of(byte: u8) -> u128
+    ensures { result ≡ byte - 48 }
 {
-    let value = u128::from(value) * 10 + u128::from(digit - b'0');
-    if value <= MOST {
+    u128::from(byte.saturating_sub(b'0'))
+}
+
+/// The number that digits spell, where it is below the bound. Digits may be any number, also with zeros before them. The work is linear
+/// in the digits.
+pub fn number_below(digits: &[u8], bound: u64) -> Option<u64>
+    ensures value { result ≡ number_below (decimal digits.now) bound }
+    ensures within { IfSome result (λ n. n < bound) }
+{
+    let below = u128::from(bound);
+    let mut value = 0;
+    let mut rest = digits;
+    while let Some((digit, after)) = rest.split_first() {
+        if value >= below {
+            return None;
+        }
+        value = value * 10 + digit_of(*digit);
+        rest = after;
+    }
+    if value < below {
         Some(value as u64)
     } else {
         None
     }
 }
 
-/// The number that decimal digits spell, where it is at most 2^63 - 1.
-pub fn decimal(digits: &[u8]) -> Option<i64>
-    requires { IsRun Digits digits.now }
+/// The number that digits spell, where it is at most 2^63 - 1.
+#[tactic(auto, using(crate::proofs::NumberLemmas::narrow_some, crate::proofs::NumberLemmas::narrow_none))]
+pub fn narrow_number(digits: &[u8]) -> Option<i64>
     ensures { result ≡ narrow_number (decimal digits.now) }
 {
-    let mut value = 0;
-    let mut rest = digits;
-    while let Some((digit, after)) = rest.split_first() {
-        value = longer(value, *digit)?;
-        rest = after;
+    match number_below(digits, PAST_NUMBERS) {
+        Some(number) => Some(number as i64),
+        None => None,
     }
-    Some(value as i64)
 }

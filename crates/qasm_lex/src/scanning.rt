@@ -1,6 +1,6 @@
 //! The tokens of a text, in one pass.
-ghost use Rattle.std.specs.Prelude.{◌≡◌, ◌≤◌, ◌<◌, ◌+◌, drop, length, IfOk, IfSome, IfNone, List, Option, ℕ};
-ghost use Rattle.qasm_lex.specs.Lexemes.{AreTokens, AreOfText, Begins, BeginsNone};
+ghost use Rattle.std.specs.Prelude.{◌≡◌, ◌≤◌, ◌<◌, ◌+◌, drop, length, All, IfOk, IfSome, IfNone, List, Option, ℕ};
+ghost use Rattle.qasm_lex.specs.Lexemes.{AreTokens, IsWithin, Begins, BeginsNone};
 ghost use Rattle.qasm_lex.specs.declared.token.Token.{Token};
 
 use crate::pieces::{Form, piece_of};
@@ -22,7 +22,7 @@ fn front(text: &[u8], place: usize) -> Option<(Form, usize)>
 pub fn tokens(alloc: Global, text: &[u8]) -> Result<Tokens, OutOfMemory>
     requires { length text.now ≤ 16777216 }
     ensures tokens { IfOk result (λ t. AreTokens text.now t.list.items t.bad) }
-    ensures of_text { IfOk result (λ t. AreOfText text.now t.list.items) }
+    ensures of_text { IfOk result (λ t. All (IsWithin text.now) t.list.items) }
     ensures only { IfOk result (λ t. (list : List Token) (bad : Option ℕ) → AreTokens text.now list bad → (list ≡ t.list.items) × (bad ≡ t.bad)) }
 {
     let mut list = Vec::new(alloc);

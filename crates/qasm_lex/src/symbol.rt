@@ -1,10 +1,11 @@
 //! Symbols of expressions.
-ghost use Rattle.std.specs.Prelude.{◌≡◌, ◌≤◌, length, slice_range};
-ghost use Rattle.qasm_lex.specs.Lexemes.{Spells, lexeme};
-ghost use Rattle.qasm_lex.specs.declared.pieces.Form.TheVariants.{Token as OfKind};
-ghost use Rattle.qasm_lex.specs.Symbols.{is_function, word_symbol, mark_symbol, symbol_of};
+ghost use Rattle.std.specs.Prelude.{◌≡◌};
+ghost use Rattle.std.specs.List.{list_any};
+ghost use Rattle.std.specs.Str.{bytes_eq};
+ghost use Rattle.qasm_lex.specs.Lexemes.{IsWithin, lexeme_of};
+ghost use Rattle.qasm_lex.specs.Symbols.{word_symbol, mark_symbol, symbol_of};
 
-use crate::number::decimal;
+use crate::number::narrow_number;
 use crate::token::{Token, TokenKind};
 
 /// What a token stands for in an expression.
@@ -28,15 +29,11 @@ pub enum Symbol {
     Other,
 }
 
-fn is_function(word: &[u8]) -> bool
-    ensures { result ≡ is_function word.now }
+/// Whether the bytes are one of the words. The work is linear in the bytes and the words.
+pub fn is_one_of(bytes: &[u8], words: &[&[u8]]) -> bool
+    ensures { result ≡ list_any (λ word. bytes_eq bytes.now word.now) words.now }
 {
-    word == b"sin".as_slice()
-        || word == b"cos".as_slice()
-        || word == b"tan".as_slice()
-        || word == b"exp".as_slice()
-        || word == b"ln".as_slice()
-        || word == b"sqrt".as_slice()
+    words.iter().any(|word| bytes == *word)
 }
 
 #[tactic(auto, unfolding(crate::specs::Symbols::word_symbol))]
@@ -45,7 +42,7 @@ fn word_symbol(word: &[u8]) -> Symbol
 {
     if word == b"pi".as_slice() {
         Symbol::Pi
-    } else if is_function(word) {
+    } else if is_one_of(word, &[b"sin", b"cos", b"tan", b"exp", b"ln", b"sqrt"]) {
         Symbol::Function
     } else {
         Symbol::Other
@@ -70,14 +67,13 @@ fn mark_symbol(mark: u8) -> Symbol
 
 /// What a token of the text stands for.
 pub fn symbol_of(text: &[u8], token: Token) -> Symbol
-    requires within { (token.from ≤ token.to) × (token.to ≤ length text.now) }
-    requires spelled { Spells (OfKind token.kind) (slice_range text.now token.from token.to) }
-    ensures { result ≡ symbol_of (lexeme text.now token) }
+    requires { IsWithin text.now token }
+    ensures { result ≡ symbol_of (lexeme_of text.now token) }
 {
     let bytes = &text[token.from as usize..token.to as usize];
     match token.kind {
         TokenKind::Word => word_symbol(bytes),
-        TokenKind::Whole => Symbol::Whole(decimal(bytes)),
+        TokenKind::Whole => Symbol::Whole(narrow_number(bytes)),
         TokenKind::Real => Symbol::Real,
         TokenKind::Mark(mark) => mark_symbol(mark),
         TokenKind::Text | TokenKind::Arrow | TokenKind::Equal => Symbol::Other,

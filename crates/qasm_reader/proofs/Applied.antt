@@ -1,30 +1,32 @@
 -- Gates place by place.
-use Rattle.std.proofs.Common.{◌≡◌, ◌∙◌, ap, refl, ◌≤◌, ◌<◌, ℕ, zero, suc, ◌+◌, List, [], ◌∷◌, ◌++◌, length, replicate, get_or, All, arith}
+use Rattle.std.proofs.Common.{◌≡◌, ◌∙◌, sym, ap, refl, ◌≤◌, ◌<◌, ℕ, zero, suc, ◌+◌, List, [], ◌∷◌, ◌++◌, length, map, replicate, get_or, take, All, arith}
 use Rattle.std.specs.List.{flat_map}
-use Rattle.std.proofs.lemmas.List.{length-map}
+use Rattle.std.proofs.lemmas.List.{append-nil, length-map, map-append, take_more, take_all}
 use Rattle.std.proofs.Math.ListN.{get_or-map}
 use Rattle.std.proofs.lemmas.List.Elements.{All-get_or}
 use Rattle.std.proofs.lemmas.Grind.{flat_map-append}
 use Rattle.gate_set.specs.declared.kind.Kind.{Kind}
 use Rattle.gate_set.specs.declared.gate.Gate.{Gate}
 use Rattle.gate_set.specs.Shape.{IsPlaced}
+use Rattle.gate_set.specs.Matrix.{arity_of}
 use Rattle.gate_set.proofs.MatrixLemmas.{arity_of-few}
-use Rattle.qasm_reader.specs.declared.registers.Target.{Target}
-use Rattle.qasm_reader.specs.Acts.{qubit_at, qubits_at, up_to}
-use Rattle.std.proofs.lemmas.List.{append-nil}
+use Rattle.qasm_reader.specs.declared.registers.Target.{Target as Place}
+use Rattle.qasm_reader.specs.Acts.{Item, Target, qubit_at, qubits_at, up_to, placed}
+use Rattle.qasm_reader.specs.Calls.{one}
+use Rattle.qasm_reader.specs.Private.Seen.{seen_target, seen_targets}
 
 -- the gates of the places below a number
-abbrev pub product_up_to : Kind → ℕ → List Target → ℕ → List Gate
-product_up_to kind times ts n = flat_map (λ place. replicate times (record { kind = kind; on = qubits_at ts place })) (up_to n)
+abbrev pub product_up_to : List Item → List Target → ℕ → List Gate
+product_up_to items ts n = flat_map (λ place. map (placed (qubits_at ts place)) items) (up_to n)
 
 -- those of one more place
-pub product_next : (kind : Kind) (times : ℕ) (ts : List Target) (place next : ℕ) → next ≡ place + 1
-    → product_up_to kind times ts next ≡ product_up_to kind times ts place ++ replicate times (record { kind = kind; on = qubits_at ts place })
-product_next kind times ts place next e =
+pub product_next : (items : List Item) (ts : List Target) (place next : ℕ) → next ≡ place + 1
+    → product_up_to items ts next ≡ product_up_to items ts place ++ map (placed (qubits_at ts place)) items
+product_next items ts place next e =
     let s : next ≡ suc place = omega arith in
-    ap (product_up_to kind times ts) s
-    ∙ flat_map-append (λ place. replicate times (record { kind = kind; on = qubits_at ts place })) (up_to place) (place ∷ [])
-    ∙ ap (λ r. product_up_to kind times ts place ++ r) (append-nil _)
+    ap (product_up_to items ts) s
+    ∙ flat_map-append (λ place. map (placed (qubits_at ts place)) items) (up_to place) (place ∷ [])
+    ∙ ap (λ r. product_up_to items ts place ++ r) (append-nil _)
 
 -- one more of the same
 pub replicate_next : {X : Type 0} (n next : ℕ) (x : X) → next ≡ n + 1 → replicate next x ≡ replicate n x ++ x ∷ []
@@ -34,14 +36,38 @@ replicate_next n next x e = let s : next ≡ suc n = omega arith in ap (λ m. re
     go zero = refl
     go (suc n) = ap (λ r. x ∷ r) (go n)
 
+-- the first numbers pick the first qubits
+picked : (qs : List ℕ) (n : ℕ) → n ≤ length qs → map (λ i. get_or qs i 0) (up_to n) ≡ take n qs
+picked qs zero h = refl
+picked qs (suc n) h =
+    let e : n + 1 ≡ suc n = omega arith in
+    map-append (λ i. get_or qs i 0) (up_to n) (n ∷ []) ∙ ap (λ r. r ++ get_or qs n 0 ∷ []) (picked qs n (omega arith)) ∙ sym (take_more qs n 0 (omega arith)) ∙ ap (λ m. take m qs) e
+
+placed_one : (kind : Kind) (qs : List ℕ) → length qs ≡ arity_of kind → placed qs (one kind) ≡ record { kind = kind; on = qs }
+placed_one kind qs e = ap (λ on. record { kind = kind; on = on }) (picked qs (arity_of kind) (omega arith) ∙ take_all (arity_of kind) qs (omega arith))
+
+map_replicate : {X Y : Type 0} (f : X → Y) (n : ℕ) (x : X) → map f (replicate n x) ≡ replicate n (f x)
+map_replicate f zero x = refl
+map_replicate f (suc n) x = ap (λ r. f x ∷ r) (map_replicate f n x)
+
+-- gates of one kind on all qubits of a place
+pub placed_all : (kind : Kind) (times : ℕ) (qs : List ℕ) → length qs ≡ arity_of kind → map (placed qs) (replicate times (one kind)) ≡ replicate times (record { kind = kind; on = qs })
+placed_all kind times qs e = map_replicate (placed qs) times (one kind) ∙ ap (replicate times) (placed_one kind qs e)
+
+pub placed_same : (kind : Kind) (times : ℕ) (qs : List ℕ) → IsPlaced kind qs → replicate times (record { kind = kind; on = qs }) ≡ map (placed qs) (replicate times (one kind))
+placed_same kind times qs p = sym (placed_all kind times qs p.count)
+
 -- a gate has few arguments
-pub placed_few : (kind : Kind) (ts : List Target) (place : ℕ) → IsPlaced kind (qubits_at ts place) → length ts ≤ 3
-placed_few kind ts place p = let c = p.count in let l = length-map ts (qubit_at place) in let f = arity_of-few kind in omega arith
+pub placed_few : (kind : Kind) (ts : List Place) (place : ℕ) → IsPlaced kind (qubits_at (seen_targets ts) place) → length ts ≤ 3
+placed_few kind ts place p =
+    let c = p.count in let l = length-map (seen_targets ts) (qubit_at place) in let m = length-map ts seen_target in let f = arity_of-few kind in omega arith
 
 -- each qubit of a gate is small
-pub small_at : (ts : List Target) (place i : ℕ) (d : Target) → i < length ts → All (λ q. q < 64) (qubits_at ts place) → qubit_at place (get_or ts i d) < 64
+pub small_at : (ts : List Place) (place i : ℕ) (d : Place) → i < length ts → All (λ q. q < 64) (qubits_at (seen_targets ts) place) → qubit_at place (seen_target (get_or ts i d)) < 64
 small_at ts place i d h a =
-    let l : i < length (qubits_at ts place) = let e = length-map ts (qubit_at place) in omega arith in
-    let e : get_or (qubits_at ts place) i (qubit_at place d) ≡ qubit_at place (get_or ts i d) = get_or-map (qubit_at place) ts i d in
-    let b : get_or (qubits_at ts place) i (qubit_at place d) < 64 = All-get_or (λ q. q < 64) (qubits_at ts place) i (qubit_at place d) l a in
+    let l : i < length (qubits_at (seen_targets ts) place) = let e = length-map (seen_targets ts) (qubit_at place) in let m = length-map ts seen_target in omega arith in
+    let e : get_or (qubits_at (seen_targets ts) place) i (qubit_at place (seen_target d)) ≡ qubit_at place (seen_target (get_or ts i d)) =
+    get_or-map (qubit_at place) (seen_targets ts) i (seen_target d) ∙ ap (qubit_at place) (get_or-map seen_target ts i d) in
+    let b : get_or (qubits_at (seen_targets ts) place) i (qubit_at place (seen_target d)) < 64 =
+    All-get_or (λ q. q < 64) (qubits_at (seen_targets ts) place) i (qubit_at place (seen_target d)) l a in
     omega arith

@@ -1,21 +1,197 @@
 -- The first test that holds tells the refusal of a statement.
-use Rattle.std.proofs.Common.{◌≡◌, ◌∙◌, sym, ap, refl, subst, ◌≤◌, ◌<◌, ◌⊎◌, inl, inr, ℕ, suc, Bool, true, false, List, [], ◌∷◌, ◌++◌, length, arith, Option, Some, None}
-use Rattle.std.proofs.lemmas.Bool.Decides.{Decides-ltb}
-use Rattle.gate_set.specs.declared.kind.Kind.{Kind}
-use Rattle.qasm_lex.specs.declared.refusal.AngleRefusal.{AngleRefusal}
-use Rattle.qasm_reader.specs.declared.builtin.Builtin.{Builtin}
-use Rattle.qasm_reader.specs.declared.builtin.Builtin.TheVariants.{Gate, Turn}
-use Rattle.qasm_reader.specs.declared.turn.Turned.{Turned}
-use Rattle.qasm_reader.specs.declared.turn.Turned.TheVariants.{Refused, OffGrid as OffTheGrid, Quarters}
+use Rattle.std.proofs.Common.{◌≡◌, ◌≢◌, ◌∙◌, sym, ap, refl, subst, ◌≤◌, ◌<◌, ◌⊎◌, inl, inr, ℕ, zero, suc, Bool, true, false, ◌||◌, not, nat_eq, List, [], ◌∷◌, ◌++◌, length, All, AllPairs, arith, Option, Some, None, Ok, Err}
+use Rattle.std.specs.List.{list_any, AllByRecursion}
+use Rattle.std.proofs.lemmas.Bool.{eqb-true, eqb-false, eq-eqb}
+use Rattle.std.proofs.lemmas.Bool.Decides.{Decides-ltb, eqb_tells}
+use Rattle.std.proofs.lemmas.List.Elements.{All-nil, All-cons, All-weaker}
+use Rattle.std.proofs.lemmas.List.Folds.{list_any_none}
+use Rattle.std.proofs.lemmas.List.Kept.{AllPairs-cons}
+use Rattle.qasm_forms.specs.Statements.{Statement, version, include, qubits, bits, barrier, measure, call, left_out, Argument}
 use Rattle.qasm_reader.specs.declared.reason.Why.{Why}
 use Rattle.qasm_reader.specs.declared.reason.Why.TheVariants.{BadByte, NoVersion, NotAStatement, OutOfProfile, UnknownName, Redeclared, UnknownRegister, IndexOutOfRange, WrongCount, SizesDiffer, RepeatedQubit, AngleRefused, OffGrid, Measured, TooManyQubits, TooManyGates}
-use Rattle.qasm_reader.specs.Lexemes.{Lexeme}
-use Rattle.qasm_reader.specs.Statements.{Statement, version, include, qubits, bits, barrier, measure, call, left_out, Argument}
-use Rattle.qasm_reader.specs.Acts.{Act, qubit_count, gates}
-use Rattle.qasm_reader.specs.Calls.{builtin, Calls, plain, turned, Does}
+use Rattle.qasm_reader.specs.Acts.{Act, Register, Target, registers, target, targets, wholes, first_or_one, place_count, qubits_at, up_to, is_among, measured, qubit_count, gates, measures}
+use Rattle.qasm_lex.specs.Lexemes.{Lexeme}
+use Rattle.qasm_reader.specs.Calls.{Named, Gives, listed, Calls, Does}
 use Rattle.qasm_reader.specs.Parts.{Part, Has}
-use Rattle.qasm_reader.specs.Reasons.{Breaks, Holds, Refuses, IsFree, HasAngle, order}
-use Rattle.qasm_reader.specs.Tests.{AngleIs, has_angle, is_refused, is_off_grid, turn_act, call_act, act_of, exceeds, both, tests, refusal_of, reasons, first_of}
+use Rattle.qasm_reader.specs.Reasons.{Breaks, Holds, Refuses, IsFree, AreUnequal, DifferInSize, AtSomePlace, Repeats, Meets, IsOffGrid, angles_of, called_in, order}
+use Rattle.qasm_reader.specs.Private.Scope.{other_than, differ, has_twice}
+use Rattle.qasm_reader.specs.Private.Tests.{Taken, Yields, is_refused, is_off, refusal_of, if_all, if_two, other_count, sizes_differ, some_place, act_on, measure_act, act_of, exceeds, tests, reasons, first_of}
+use Rattle.qasm_reader.proofs.Facts.{neither}
+use Rattle.qasm_reader.proofs.Places.{any_there, any_found}
+use Rattle.qasm_reader.proofs.Yielding.{yields_one}
+
+-- pairs of a list
+pub pairs_none : {X : Type 0} (R : X → X → Type 0) → AllPairs R []
+pairs_none R i j d h k = absurd (omega arith)
+
+pairs_head : {X : Type 0} (R : X → X → Type 0) (x : X) (xs : List X) → AllPairs R (x ∷ xs) → All (R x) xs
+pairs_head R x xs h k d l = h zero (suc k) d (omega arith) (omega arith)
+
+pairs_tail : {X : Type 0} (R : X → X → Type 0) (x : X) (xs : List X) → AllPairs R (x ∷ xs) → AllPairs R xs
+pairs_tail R x xs h i j d l k = h (suc i) (suc j) d (omega arith) (omega arith)
+
+other_number : (p q : ℕ) → q ≢ p → nat_eq q p ≡ false
+other_number p q h = by (eqb_tells q p)
+  where
+    by : ((nat_eq q p ≡ true) × (q ≡ p)) ⊎ ((nat_eq q p ≡ false) × (q ≢ p)) → nat_eq q p ≡ false
+    by (inl r) = absurd (h r.1)
+    by (inr r) = r.0
+
+not_false : (b : Bool) → not b ≡ false → b ≡ true
+not_false true e = refl
+not_false false e = absurd cc
+
+-- sizes that are all equal
+each_same : (n : ℕ) (sizes : List ℕ) → list_any (other_than n) sizes ≡ false → AllByRecursion (λ m. m ≡ n) sizes
+each_same n [] e = tt
+each_same n (m ∷ sizes) e =
+    let q = neither (not (nat_eq m n)) (list_any (other_than n) sizes) e in
+    (eqb-true m n (not_false (nat_eq m n) q.0), each_same n sizes q.1)
+
+pub same_places : (sizes : List ℕ) → differ sizes ≡ false → AllByRecursion (λ m. m ≡ first_or_one sizes) sizes
+same_places [] e = tt
+same_places (n ∷ sizes) e = (refl, each_same n sizes e)
+
+all_equal : (n k : ℕ) (sizes : List ℕ) → k ≡ n → AllByRecursion (λ m. m ≡ n) sizes → All (λ m. k ≡ m) sizes
+all_equal n k [] e h = All-nil (λ m. k ≡ m)
+all_equal n k (m ∷ sizes) e h = All-cons (λ j. k ≡ j) m sizes (e ∙ sym h.0) (all_equal n k sizes e h.1)
+
+equal_pairs : (n : ℕ) (sizes : List ℕ) → AllByRecursion (λ m. m ≡ n) sizes → AllPairs (λ i j. i ≡ j) sizes
+equal_pairs n [] h = pairs_none (λ i j. i ≡ j)
+equal_pairs n (m ∷ sizes) h = AllPairs-cons (λ i j. i ≡ j) m sizes (all_equal n m sizes h.0 h.1) (equal_pairs n sizes h.1)
+
+equal_sizes : (sizes : List ℕ) → differ sizes ≡ false → AllPairs (λ i j. i ≡ j) sizes
+equal_sizes [] e = pairs_none (λ i j. i ≡ j)
+equal_sizes (n ∷ sizes) e = equal_pairs n (n ∷ sizes) (refl, each_same n sizes e)
+
+none_differ : (sizes : List ℕ) → AllPairs (λ i j. i ≡ j) sizes → differ sizes ≡ false
+none_differ [] h = refl
+none_differ (n ∷ sizes) h =
+    list_any_none (other_than n) sizes (All-weaker (λ m. n ≡ m) (λ m. other_than n m ≡ false) (λ m e. ap not (eq-eqb m n (sym e))) sizes (pairs_head (λ i j. i ≡ j) n sizes h))
+
+-- where a test that fails shows the opposite it tells a fact
+told_by : (b : Bool) (P : Type 0) → (P → b ≡ false) → b ≡ true → P → ⊥
+told_by b P f e p = let q : true ≡ false = sym e ∙ f p in cc
+
+true_by : (b : Bool) (P : Type 0) → (b ≡ false → P) → (P → ⊥) → b ≡ true
+true_by true P f n = refl
+true_by false P f n = absurd (n (f refl))
+
+-- a fact and its test
+pub record Decides (P : Type 0) (b : Bool) : Type 0 where
+  pub tells : b ≡ true → P
+  pub told : P → b ≡ true
+
+unequal_decides : (sizes : List ℕ) → Decides (AreUnequal sizes) (differ sizes)
+unequal_decides sizes = record {
+  tells = told_by (differ sizes) (AllPairs (λ i j. i ≡ j) sizes) (none_differ sizes);
+  told = true_by (differ sizes) (AllPairs (λ i j. i ≡ j) sizes) (equal_sizes sizes);
+}
+
+pub not_among : (q : ℕ) (qs : List ℕ) → is_among qs q ≡ false → All (λ p. q ≢ p) qs
+not_among q [] e = All-nil (λ p. q ≢ p)
+not_among q (p ∷ qs) e =
+    let s = neither (nat_eq q p) (is_among qs q) e in All-cons (λ p. q ≢ p) p qs (eqb-false q p s.0) (not_among q qs s.1)
+
+among_none : (q : ℕ) (qs : List ℕ) → All (λ p. q ≢ p) qs → is_among qs q ≡ false
+among_none q qs h = list_any_none (nat_eq q) qs (All-weaker (λ p. q ≢ p) (λ p. nat_eq q p ≡ false) (λ p n. other_number p q n) qs h)
+
+-- where none is there twice all are different
+pub different : (qs : List ℕ) → has_twice qs ≡ false → AllPairs (λ p q. p ≢ q) qs
+different [] e = pairs_none (λ p q. p ≢ q)
+different (q ∷ qs) e = let s = neither (is_among qs q) (has_twice qs) e in AllPairs-cons (λ p q. p ≢ q) q qs (not_among q qs s.0) (different qs s.1)
+
+none_twice : (qs : List ℕ) → AllPairs (λ p q. p ≢ q) qs → has_twice qs ≡ false
+none_twice [] h = refl
+none_twice (q ∷ qs) h =
+    ap (λ b. b || has_twice qs) (among_none q qs (pairs_head (λ p r. p ≢ r) q qs h)) ∙ none_twice qs (pairs_tail (λ p r. p ≢ r) q qs h)
+
+repeats_decides : (qs : List ℕ) → Decides (Repeats qs) (has_twice qs)
+repeats_decides qs = record {
+  tells = told_by (has_twice qs) (AllPairs (λ p q. p ≢ q) qs) (none_twice qs);
+  told = true_by (has_twice qs) (AllPairs (λ p q. p ≢ q) qs) (different qs);
+}
+
+-- qubits that are gone
+none_gone : (gone qs : List ℕ) → list_any (is_among gone) qs ≡ false → All (λ q. All (λ p. q ≢ p) gone) qs
+none_gone gone [] e = All-nil _
+none_gone gone (q ∷ qs) e =
+    let s = neither (is_among gone q) (list_any (is_among gone) qs) e in All-cons (λ q. All (λ p. q ≢ p) gone) q qs (not_among q gone s.0) (none_gone gone qs s.1)
+
+no_test_gone : (gone qs : List ℕ) → All (λ q. All (λ p. q ≢ p) gone) qs → list_any (is_among gone) qs ≡ false
+no_test_gone gone qs h = list_any_none (is_among gone) qs (All-weaker (λ q. All (λ p. q ≢ p) gone) (λ q. is_among gone q ≡ false) (λ q a. among_none q gone a) qs h)
+
+meets_decides : (gone qs : List ℕ) → Decides (Meets gone qs) (list_any (is_among gone) qs)
+meets_decides gone qs = record {
+  tells = told_by (list_any (is_among gone) qs) (All (λ q. All (λ p. q ≢ p) gone) qs) (no_test_gone gone qs);
+  told = true_by (list_any (is_among gone) qs) (All (λ q. All (λ p. q ≢ p) gone) qs) (none_gone gone qs);
+}
+
+some_targets : (x y : List Target) → Some x ≡ Some y → x ≡ y
+some_targets x y e = cc
+
+some_target : (x y : Target) → Some x ≡ Some y → x ≡ y
+some_target x y e = cc
+
+module _ (all : List (List ℕ × Register)) where
+  -- a fact on the places of a call
+  place_decides : (P : List ℕ → Type 0) (test : List ℕ → Bool) → ((qs : List ℕ) → Decides (P qs) (test qs)) → (s : Statement) → Decides (AtSomePlace all P s) (some_place all test s)
+  place_decides P test d version = record { tells = λ e. absurd cc; told = λ p. absurd p }
+  place_decides P test d (include text) = record { tells = λ e. absurd cc; told = λ p. absurd p }
+  place_decides P test d (qubits name size) = record { tells = λ e. absurd cc; told = λ p. absurd p }
+  place_decides P test d (bits name size) = record { tells = λ e. absurd cc; told = λ p. absurd p }
+  place_decides P test d (barrier arguments) = record { tells = λ e. absurd cc; told = λ p. absurd p }
+  place_decides P test d (measure from to) = record { tells = λ e. absurd cc; told = λ p. absurd p }
+  place_decides P test d (left_out name more) = record { tells = λ e. absurd cc; told = λ p. absurd p }
+  place_decides P test d (call name angles arguments) = by (targets all arguments) refl
+    where
+      there : List Target → ℕ → Bool
+      there ts place = test (qubits_at ts place)
+
+      by : (x : Option (List Target)) → targets all arguments ≡ x → Decides (AtSomePlace all P (call name angles arguments)) (if_all x (λ ts. list_any (λ place. test (qubits_at ts place)) (up_to (place_count ts))))
+      by None e = record { tells = λ h. absurd cc; told = λ p. absurd (let q : None ≡ Some p.0 = sym e ∙ p.1 in cc) }
+      by (Some ts) e = record {
+        tells = λ h. (let f = any_found (λ place. test (qubits_at ts place)) (place_count ts) h in (ts, e, f.0, f.1, (d (qubits_at ts f.0)).tells f.2));
+        told = λ p. (
+            let q : p.0 ≡ ts = some_targets p.0 ts (sym p.1 ∙ e) in
+            any_there (λ place. test (qubits_at ts place)) p.2 (place_count ts) (subst (λ x. p.2 < place_count x) q p.3) ((d (qubits_at ts p.2)).told (subst (λ x. P (qubits_at x p.2)) q p.4))
+            );
+      }
+
+  counts_decide : (f t : Target) → Decides (place_count (f ∷ []) ≢ place_count (t ∷ [])) (other_count f t)
+  counts_decide f t = record {
+    tells = told_by (other_count f t) (place_count (f ∷ []) ≡ place_count (t ∷ [])) (λ e. ap not (eq-eqb _ _ e));
+    told = true_by (other_count f t) (place_count (f ∷ []) ≡ place_count (t ∷ [])) (λ e. eqb-true _ _ (not_false _ e));
+  }
+
+  sizes_decide : (s : Statement) → Decides (DifferInSize all s) (sizes_differ all s)
+  sizes_decide version = record { tells = λ e. absurd cc; told = λ p. absurd p }
+  sizes_decide (include text) = record { tells = λ e. absurd cc; told = λ p. absurd p }
+  sizes_decide (qubits name size) = record { tells = λ e. absurd cc; told = λ p. absurd p }
+  sizes_decide (bits name size) = record { tells = λ e. absurd cc; told = λ p. absurd p }
+  sizes_decide (barrier arguments) = record { tells = λ e. absurd cc; told = λ p. absurd p }
+  sizes_decide (left_out name more) = record { tells = λ e. absurd cc; told = λ p. absurd p }
+  sizes_decide (measure from to) = by (target all from) refl (target all to) refl
+    where
+      by : (x : Option Target) → target all from ≡ x → (y : Option Target) → target all to ≡ y → Decides (DifferInSize all (measure from to)) (if_two x y other_count)
+      by None e y g = record { tells = λ h. absurd cc; told = λ p. absurd (let q : None ≡ Some p.0 = sym e ∙ p.2 in cc) }
+      by (Some f) e None g = record { tells = λ h. absurd cc; told = λ p. absurd (let q : None ≡ Some p.1 = sym g ∙ p.3 in cc) }
+      by (Some f) e (Some t) g = record {
+        tells = λ h. (f, t, e, g, (counts_decide f t).tells h);
+        told = λ p. (
+            let q : p.0 ≡ f = some_target p.0 f (sym p.2 ∙ e) in
+            let r : p.1 ≡ t = some_target p.1 t (sym p.3 ∙ g) in
+            (counts_decide f t).told (subst (λ x. place_count (f ∷ []) ≢ place_count (x ∷ [])) r (subst (λ x. place_count (x ∷ []) ≢ place_count (p.1 ∷ [])) q p.4))
+            );
+      }
+  sizes_decide (call name angles arguments) = by (targets all arguments) refl
+    where
+      by : (x : Option (List Target)) → targets all arguments ≡ x → Decides (DifferInSize all (call name angles arguments)) (if_all x (λ ts. differ (wholes ts)))
+      by None e = record { tells = λ h. absurd cc; told = λ p. absurd (let q : None ≡ Some p.0 = sym e ∙ p.1 in cc) }
+      by (Some ts) e = record {
+        tells = λ h. (ts, e, (unequal_decides (wholes ts)).tells h);
+        told = λ p. (let q : p.0 ≡ ts = some_targets p.0 ts (sym p.1 ∙ e) in (unequal_decides (wholes ts)).told (subst (λ x. AreUnequal (wholes x)) q p.2));
+      }
 
 -- each test that holds tells its reason, and the reasons stand in their order
 abbrev pub Told : (Why → Type 0) → List Bool → List Why → ℕ → Type 0
@@ -62,78 +238,48 @@ first_none B (true ∷ bs) (v ∷ ws) n o t e a = cc
 first_none B (false ∷ bs) (v ∷ ws) n o t e (inl p) = let q : false ≡ true = p.0 in cc
 first_none B (false ∷ bs) (v ∷ ws) n o t e (inr a) = first_none B bs ws (suc n) o t.2 e a
 
--- a call with one angle
-angle_there : (s : Statement) (angle : List Lexeme) → HasAngle s angle → has_angle s ≡ true
-angle_there version angle h = absurd h
-angle_there (include text) angle h = absurd h
-angle_there (qubits name size) angle h = absurd h
-angle_there (bits name size) angle h = absurd h
-angle_there (barrier all) angle h = absurd h
-angle_there (measure a b) angle h = absurd h
-angle_there (call name angles all) angle h = ap (λ g. has_angle (call name g all)) h
-angle_there (left_out name more) angle h = absurd h
-
-the_angle : (s : Statement) → has_angle s ≡ true → (angle : List Lexeme) × HasAngle s angle
-the_angle version h = absurd cc
-the_angle (include text) h = absurd cc
-the_angle (qubits name size) h = absurd cc
-the_angle (bits name size) h = absurd cc
-the_angle (barrier all) h = absurd cc
-the_angle (measure a b) h = absurd cc
-the_angle (call name None all) h = absurd cc
-the_angle (call name (Some []) all) h = absurd cc
-the_angle (call name (Some (angle ∷ [])) all) h = (angle, refl)
-the_angle (call name (Some (angle ∷ b ∷ more)) all) h = absurd cc
-the_angle (left_out name more) h = absurd cc
-
--- what a statement does is definite
-call_does : (name : List ℕ) (angles : Option (List (List Lexeme))) (all : List Argument) (t : Turned) (act : Act) → AngleIs (call name angles all) t → Calls name angles all act
-    → call_act (builtin name) (has_angle (call name angles all)) t all ≡ Some act
-call_does name angles all t act i (plain kind b a) =
-    ap (λ g. call_act g (has_angle (call name angles all)) t all) b ∙ ap Some (sym a)
-call_does name angles all t act i (turned forth back angle m b g h a) =
-    let q : Quarters m ≡ t = i.only angle g (Quarters m) h in
-    ap (λ x. call_act x (has_angle (call name angles all)) t all) b ∙ ap (λ x. turn_act (Turn forth back) x t all) (angle_there (call name angles all) angle g)
-    ∙ ap (λ x. turn_act (Turn forth back) true x all) (sym q) ∙ ap Some (sym a)
-
-does_act : (s : Statement) (t : Turned) (act : Act) → AngleIs s t → Does s act → act_of s t ≡ Some act
-does_act version t act i d = ap Some (sym d)
-does_act (include text) t act i d = ap Some (sym d)
-does_act (qubits name size) t act i d = ap Some (sym d)
-does_act (bits name size) t act i d = ap Some (sym d)
-does_act (barrier all) t act i d = ap Some (sym d)
-does_act (measure a b) t act i d = ap Some (sym d)
-does_act (call name angles all) t act i d = call_does name angles all t act i d
-does_act (left_out name more) t act i d = ap Some (sym d)
-
 some_act : (a b : Act) → Some a ≡ Some b → b ≡ a
 some_act a b e = cc
 
-turn_does : (name : List ℕ) (angles : Option (List (List Lexeme))) (all : List Argument) (forth back : Kind) (x : Bool) (t : Turned) (act : Act) → AngleIs (call name angles all) t → builtin name ≡ Some (Turn forth back)
-    → has_angle (call name angles all) ≡ x → turn_act (Turn forth back) x t all ≡ Some act → Calls name angles all act
-turn_does name angles all forth back true (Quarters m) act i b h e =
-    let a = the_angle (call name angles all) h in turned forth back a.0 m b a.1 (i.is a.0 a.1) (some_act _ act e)
-turn_does name angles all forth back true (Refused r) act i b h e = absurd cc
-turn_does name angles all forth back true OffTheGrid act i b h e = absurd cc
-turn_does name angles all forth back false (Quarters m) act i b h e = absurd cc
-turn_does name angles all forth back false (Refused r) act i b h e = absurd cc
-turn_does name angles all forth back false OffTheGrid act i b h e = absurd cc
+module _ (before : List Act) (t : Taken) where
+  -- what a statement does is definite
+  call_does : (name : List ℕ) (angles : Option (List (List Lexeme))) (all : List Argument) (act : Act) → Yields (called_in before (call name angles all)) (listed angles) t
+      → Calls before name (listed angles) all act → act_of before (call name angles all) t ≡ Some act
+  call_does name angles all act y c =
+      let q : t ≡ Ok (Some c.items) = yields_one (called_in before (call name angles all)) (listed angles) t (Ok (Some c.items)) y (c.called, c.values, c.named, c.valued, c.gives) in
+      ap (λ x. act_on x (targets (registers before) all)) q ∙ ap (act_on (Ok (Some c.items))) c.means ∙ ap Some (sym c.does)
 
-call_acts : (name : List ℕ) (angles : Option (List (List Lexeme))) (all : List Argument) (t : Turned) (act : Act) (g : Option Builtin) → AngleIs (call name angles all) t → builtin name ≡ g
-    → call_act g (has_angle (call name angles all)) t all ≡ Some act → Calls name angles all act
-call_acts name angles all t act None i b e = absurd cc
-call_acts name angles all t act (Some (Gate kind)) i b e = plain kind b (some_act _ act e)
-call_acts name angles all t act (Some (Turn forth back)) i b e = turn_does name angles all forth back (has_angle (call name angles all)) t act i b refl e
+  does_act : (s : Statement) (act : Act) → Yields (called_in before s) (angles_of s) t → Does before s act → act_of before s t ≡ Some act
+  does_act version act y d = ap Some (sym d)
+  does_act (include text) act y d = ap Some (sym d)
+  does_act (qubits name size) act y d = ap Some (sym d)
+  does_act (bits name size) act y d = ap Some (sym d)
+  does_act (barrier all) act y d = ap Some (sym d)
+  does_act (measure a b) act y d = ap measure_act d.1 ∙ ap Some (sym d.2)
+  does_act (call name angles all) act y d = call_does name angles all act y d
+  does_act (left_out name more) act y d = ap Some (sym d)
 
-pub act_does : (s : Statement) (t : Turned) (act : Act) → AngleIs s t → act_of s t ≡ Some act → Does s act
-act_does version t act i e = some_act _ act e
-act_does (include text) t act i e = some_act _ act e
-act_does (qubits name size) t act i e = some_act _ act e
-act_does (bits name size) t act i e = some_act _ act e
-act_does (barrier all) t act i e = some_act _ act e
-act_does (measure a b) t act i e = some_act _ act e
-act_does (call name angles all) t act i e = call_acts name angles all t act (builtin name) i refl e
-act_does (left_out name more) t act i e = some_act _ act e
+act_measured : (x : Option Target) (act : Act) → measure_act x ≡ Some act → (t : Target) × (x ≡ Some t) × (act ≡ measures t)
+act_measured None act e = absurd cc
+act_measured (Some t) act e = (t, refl, some_act _ act e)
+
+act_called : (before : List Act) (name : List ℕ) (angles : Option (List (List Lexeme))) (all : List Argument) (act : Act) (t : Taken) (x : Option (List Target)) → targets (registers before) all ≡ x
+    → Yields (called_in before (call name angles all)) (listed angles) t → act_on t x ≡ Some act → Calls before name (listed angles) all act
+act_called before name angles all act (Ok (Some items)) (Some ts) m y e =
+    record { called = y.0; values = y.1; items = items; on = ts; named = y.2; valued = y.3; gives = y.4; means = m; does = some_act _ act e }
+act_called before name angles all act (Ok (Some items)) None m y e = absurd cc
+act_called before name angles all act (Ok None) x m y e = absurd cc
+act_called before name angles all act (Err r) x m y e = absurd cc
+
+pub act_does : (before : List Act) (s : Statement) (t : Taken) (act : Act) → Yields (called_in before s) (angles_of s) t → act_of before s t ≡ Some act → Does before s act
+act_does before version t act y e = some_act _ act e
+act_does before (include text) t act y e = some_act _ act e
+act_does before (qubits name size) t act y e = some_act _ act e
+act_does before (bits name size) t act y e = some_act _ act e
+act_does before (barrier all) t act y e = some_act _ act e
+act_does before (measure a b) t act y e = act_measured (target (registers before) a) act e
+act_does before (call name angles all) t act y e = act_called before name angles all act t (targets (registers before) all) refl y e
+act_does before (left_out name more) t act y e = some_act _ act e
 
 exceeds_true : (most : ℕ) (x : Option Act) (count : Act → ℕ) → exceeds most x count ≡ true → (act : Act) × (x ≡ Some act) × (most < count act)
 exceeds_true most None count e = absurd cc
@@ -142,31 +288,45 @@ exceeds_true most (Some act) count e = (act, refl, (Decides-ltb most (count act)
 exceeds_is : (most : ℕ) (x : Option Act) (count : Act → ℕ) (act : Act) → x ≡ Some act → most < count act → exceeds most x count ≡ true
 exceeds_is most x count act e h = ap (λ y. exceeds most y count) e ∙ (Decides-ltb most (count act)).1 h
 
-both_parts : (a b : Bool) → both a b ≡ true → (a ≡ true) × (b ≡ true)
-both_parts true b e = (refl, e)
-both_parts false b e = absurd cc
+-- the tests of angles
+refused_tells : (limit : ℕ) (before : List Act) (s : Statement) (t : Taken) → Yields (called_in before s) (angles_of s) t → is_refused t ≡ true → Breaks limit before s (refusal_of t)
+refused_tells limit before s (Err e) y b = y
+refused_tells limit before s (Ok x) y b = absurd cc
 
-refused_tells : (limit : ℕ) (before : List Act) (s : Statement) (t : Turned) → AngleIs s t → both (has_angle s) (is_refused t) ≡ true → Breaks limit before s (refusal_of t)
-refused_tells limit before s (Refused e) i b = let p = both_parts (has_angle s) true b in let a = the_angle s p.0 in (a.0, a.1, i.is a.0 a.1)
-refused_tells limit before s OffTheGrid i b = absurd (let p = both_parts (has_angle s) false b in let q : false ≡ true = p.1 in cc)
-refused_tells limit before s (Quarters m) i b = absurd (let p = both_parts (has_angle s) false b in let q : false ≡ true = p.1 in cc)
+refused_order : (t : Taken) → is_refused t ≡ true → order (refusal_of t) ≡ 11
+refused_order (Err e) b = refl
+refused_order (Ok x) b = absurd cc
 
-refused_order : (s : Statement) (t : Turned) → both (has_angle s) (is_refused t) ≡ true → order (refusal_of t) ≡ 11
-refused_order s (Refused e) b = refl
-refused_order s OffTheGrid b = absurd (let p = both_parts (has_angle s) false b in let q : false ≡ true = p.1 in cc)
-refused_order s (Quarters m) b = absurd (let p = both_parts (has_angle s) false b in let q : false ≡ true = p.1 in cc)
+off_tells : (named : Option Named) (angles : List (List Lexeme)) (t : Taken) → Yields named angles t → is_off named t ≡ true → IsOffGrid named angles
+off_tells None angles t y b = absurd cc
+off_tells (Some called) angles (Ok None) y b = record { called = called; values = y.0; is = refl; valued = y.1; none = λ items g. y.2 called items refl g }
+off_tells (Some called) angles (Ok (Some items)) y b = absurd cc
+off_tells (Some called) angles (Err e) y b = absurd cc
 
-off_grid_tells : (limit : ℕ) (before : List Act) (s : Statement) (t : Turned) → AngleIs s t → both (has_angle s) (is_off_grid t) ≡ true → Breaks limit before s OffGrid
-off_grid_tells limit before s OffTheGrid i b = let p = both_parts (has_angle s) true b in let a = the_angle s p.0 in (a.0, a.1, i.is a.0 a.1)
-off_grid_tells limit before s (Refused e) i b = absurd (let p = both_parts (has_angle s) false b in let q : false ≡ true = p.1 in cc)
-off_grid_tells limit before s (Quarters m) i b = absurd (let p = both_parts (has_angle s) false b in let q : false ≡ true = p.1 in cc)
+off_told : (named : Option Named) (angles : List (List Lexeme)) (t : Taken) → Yields named angles t → IsOffGrid named angles → is_off named t ≡ true
+off_told named angles t y o =
+    let q : t ≡ Ok None = yields_one named angles t (Ok None) y (o.values, o.valued, λ called items e g. o.none items (subst (λ c. Gives c o.values items) (same o.is e) g)) in
+    ap (λ x. is_off x t) o.is ∙ ap (is_off (Some o.called)) q
+  where
+    same : {x : Option Named} {c d : Named} → x ≡ Some c → x ≡ Some d → d ≡ c
+    same e f = cc
 
--- the tests tell what a statement breaks
-tests_tell : (limit : ℕ) (before : List Act) (s : Statement) (t : Turned) → AngleIs s t → Told (Breaks limit before s) (tests limit before s t) (reasons t) 3
-tests_tell limit before s t i = (
-  λ e. e,
-  λ e. refl,
-  (
+module _ (limit : ℕ) (before : List Act) (s : Statement) (t : Taken) (y : Yields (called_in before s) (angles_of s) t) where
+  abbrev TheTests : List Bool
+  TheTests = tests limit before s (called_in before s) t
+
+  sizes : Decides (DifferInSize (registers before) s) (sizes_differ (registers before) s)
+  sizes = sizes_decide (registers before) s
+
+  twice : Decides (AtSomePlace (registers before) Repeats s) (some_place (registers before) has_twice s)
+  twice = place_decides (registers before) Repeats has_twice repeats_decides s
+
+  gone : Decides (AtSomePlace (registers before) (Meets (measured before)) s) (some_place (registers before) (list_any (is_among (measured before))) s)
+  gone = place_decides (registers before) (Meets (measured before)) (list_any (is_among (measured before))) (meets_decides (measured before)) s
+
+  -- the tests tell what a statement breaks
+  tests_tell : Told (Breaks limit before s) TheTests (reasons t) 3
+  tests_tell = (
     λ e. e,
     λ e. refl,
     (
@@ -185,21 +345,25 @@ tests_tell limit before s t i = (
               λ e. e,
               λ e. refl,
               (
-                λ e. e,
+                (sizes).tells,
                 λ e. refl,
                 (
-                  refused_tells limit before s t i,
-                  refused_order s t,
+                  (twice).tells,
+                  λ e. refl,
                   (
-                    off_grid_tells limit before s t i,
-                    λ e. refl,
+                    refused_tells limit before s t y,
+                    refused_order t,
                     (
-                      λ e. e,
+                      off_tells (called_in before s) (angles_of s) t y,
                       λ e. refl,
                       (
-                        λ e. (let x = exceeds_true limit (act_of s t) (λ act. qubit_count (before ++ act ∷ [])) e in (x.0, act_does s t x.0 i x.1, x.2)),
+                        (gone).tells,
                         λ e. refl,
-                        (λ e. (let x = exceeds_true 1000000 (act_of s t) (λ act. length (gates (before ++ act ∷ []))) e in (x.0, act_does s t x.0 i x.1, x.2)), λ e. refl, tt),
+                        (
+                          λ e. (let x = exceeds_true limit (act_of before s t) (λ act. qubit_count (before ++ act ∷ [])) e in (x.0, act_does before s t x.0 y x.1, x.2)),
+                          λ e. refl,
+                          (λ e. (let x = exceeds_true 1000000 (act_of before s t) (λ act. length (gates (before ++ act ∷ []))) e in (x.0, act_does before s t x.0 y x.1, x.2)), λ e. refl, tt),
+                        ),
                       ),
                     ),
                   ),
@@ -210,39 +374,30 @@ tests_tell limit before s t i = (
         ),
       ),
     ),
-  ),
-)
+  )
 
-refused_both : (s : Statement) (t : Turned) (e : AngleRefusal) (angle : List Lexeme) → HasAngle s angle → Refused e ≡ t → both (has_angle s) (is_refused t) ≡ true
-refused_both s t e angle h q = ap (λ x. both x (is_refused t)) (angle_there s angle h) ∙ ap is_refused (sym q)
-
-off_grid_both : (s : Statement) (t : Turned) (angle : List Lexeme) → HasAngle s angle → OffTheGrid ≡ t → both (has_angle s) (is_off_grid t) ≡ true
-off_grid_both s t angle h q = ap (λ x. both x (is_off_grid t)) (angle_there s angle h) ∙ ap is_off_grid (sym q)
-
--- what a statement breaks is told
-breaks_among : (limit : ℕ) (before : List Act) (s : Statement) (t : Turned) → AngleIs s t → (o : Why) → Breaks limit before s o → Among (tests limit before s t) (reasons t) o
-breaks_among limit before s t i (BadByte place) b = absurd b
-breaks_among limit before s t i NoVersion b = absurd b
-breaks_among limit before s t i NotAStatement b = absurd b
-breaks_among limit before s t i OutOfProfile b = inl (b, refl)
-breaks_among limit before s t i UnknownName b = inr (inl (b, refl))
-breaks_among limit before s t i Redeclared b = inr (inr (inl (b, refl)))
-breaks_among limit before s t i UnknownRegister b = inr (inr (inr (inl (b, refl))))
-breaks_among limit before s t i IndexOutOfRange b = inr (inr (inr (inr (inl (b, refl)))))
-breaks_among limit before s t i WrongCount b = inr (inr (inr (inr (inr (inl (b, refl))))))
-breaks_among limit before s t i SizesDiffer b = inr (inr (inr (inr (inr (inr (inl (b, refl)))))))
-breaks_among limit before s t i RepeatedQubit b = inr (inr (inr (inr (inr (inr (inr (inl (b, refl))))))))
-breaks_among limit before s t i (AngleRefused e) b =
-    let q : Refused e ≡ t = i.only b.0 b.1 (Refused e) b.2 in
-    inr (inr (inr (inr (inr (inr (inr (inr (inl (refused_both s t e b.0 b.1 q, ap refusal_of q)))))))))
-breaks_among limit before s t i OffGrid b =
-    let q : OffTheGrid ≡ t = i.only b.0 b.1 OffTheGrid b.2 in
-    inr (inr (inr (inr (inr (inr (inr (inr (inr (inl (off_grid_both s t b.0 b.1 q, refl))))))))))
-breaks_among limit before s t i Measured b = inr (inr (inr (inr (inr (inr (inr (inr (inr (inr (inl (b, refl)))))))))))
-breaks_among limit before s t i TooManyQubits b =
-    inr (inr (inr (inr (inr (inr (inr (inr (inr (inr (inr (inl (exceeds_is limit (act_of s t) (λ act. qubit_count (before ++ act ∷ [])) b.0 (does_act s t b.0 i b.1) b.2, refl))))))))))))
-breaks_among limit before s t i TooManyGates b =
-    inr (inr (inr (inr (inr (inr (inr (inr (inr (inr (inr (inr (inl (exceeds_is 1000000 (act_of s t) (λ act. length (gates (before ++ act ∷ []))) b.0 (does_act s t b.0 i b.1) b.2, refl)))))))))))))
+  -- what a statement breaks is told
+  breaks_among : (o : Why) → Breaks limit before s o → Among TheTests (reasons t) o
+  breaks_among (BadByte place) b = absurd b
+  breaks_among NoVersion b = absurd b
+  breaks_among NotAStatement b = absurd b
+  breaks_among OutOfProfile b = inl (b, refl)
+  breaks_among UnknownName b = inr (inl (b, refl))
+  breaks_among Redeclared b = inr (inr (inl (b, refl)))
+  breaks_among UnknownRegister b = inr (inr (inr (inl (b, refl))))
+  breaks_among IndexOutOfRange b = inr (inr (inr (inr (inl (b, refl)))))
+  breaks_among WrongCount b = inr (inr (inr (inr (inr (inl (b, refl))))))
+  breaks_among SizesDiffer b = inr (inr (inr (inr (inr (inr (inl ((sizes).told b, refl)))))))
+  breaks_among RepeatedQubit b = inr (inr (inr (inr (inr (inr (inr (inl ((twice).told b, refl))))))))
+  breaks_among (AngleRefused e) b =
+      let q : t ≡ Err e = yields_one (called_in before s) (angles_of s) t (Err e) y b in
+      inr (inr (inr (inr (inr (inr (inr (inr (inl (ap is_refused q, ap refusal_of (sym q))))))))))
+  breaks_among OffGrid b = inr (inr (inr (inr (inr (inr (inr (inr (inr (inl (off_told (called_in before s) (angles_of s) t y b, refl))))))))))
+  breaks_among Measured b = inr (inr (inr (inr (inr (inr (inr (inr (inr (inr (inl ((gone).told b, refl)))))))))))
+  breaks_among TooManyQubits b =
+      inr (inr (inr (inr (inr (inr (inr (inr (inr (inr (inr (inl (exceeds_is limit (act_of before s t) (λ act. qubit_count (before ++ act ∷ [])) b.0 (does_act before t s b.0 y b.1) b.2, refl))))))))))))
+  breaks_among TooManyGates b =
+      inr (inr (inr (inr (inr (inr (inr (inr (inr (inr (inr (inr (inl (exceeds_is 1000000 (act_of before s t) (λ act. length (gates (before ++ act ∷ []))) b.0 (does_act before t s b.0 y b.1) b.2, refl)))))))))))))
 
 -- a broken rule is a reason that holds
 breaks_holds : (limit : ℕ) (before : List Act) (part : Part) (s : Statement) → Has before part s → (w : Why) → Breaks limit before s w → Holds limit before part w
@@ -288,16 +443,16 @@ holds_breaks limit before part s g Measured h = subst (λ x. Breaks limit before
 holds_breaks limit before part s g TooManyQubits h = subst (λ x. Breaks limit before x TooManyQubits) (g.one h.0 h.1) h.2
 holds_breaks limit before part s g TooManyGates h = subst (λ x. Breaks limit before x TooManyGates) (g.one h.0 h.1) h.2
 
-module _ (limit : ℕ) (before : List Act) (part : Part) (s : Statement) (t : Turned) (i : AngleIs s t) (g : IsGood before part s) where
+module _ (limit : ℕ) (before : List Act) (part : Part) (s : Statement) (t : Taken) (y : Yields (called_in before s) (angles_of s) t) (g : IsGood before part s) where
   -- the first test that holds gives the refusal
-  pub refuses : (w : Why) → first_of (tests limit before s t) (reasons t) ≡ Some w → Refuses limit before part w
+  pub refuses : (w : Why) → first_of (tests limit before s (called_in before s) t) (reasons t) ≡ Some w → Refuses limit before part w
   refuses w e = record {
-    holds = breaks_holds limit before part s g.has w (first_tells (Breaks limit before s) (tests limit before s t) (reasons t) 3 w (tests_tell limit before s t i) e);
-    first = λ o h. first_least (Breaks limit before s) (tests limit before s t) (reasons t) 3 w o (tests_tell limit before s t i) e
-        (breaks_among limit before s t i o (holds_breaks limit before part s g o h));
+    holds = breaks_holds limit before part s g.has w (first_tells (Breaks limit before s) (tests limit before s (called_in before s) t) (reasons t) 3 w (tests_tell limit before s t y) e);
+    first = λ o h. first_least (Breaks limit before s) (tests limit before s (called_in before s) t) (reasons t) 3 w o (tests_tell limit before s t y) e
+        (breaks_among limit before s t y o (holds_breaks limit before part s g o h));
   }
 
   -- and where none holds the statement is free
-  pub free : first_of (tests limit before s t) (reasons t) ≡ None → IsFree limit before part
-  free e = λ o h. first_none (Breaks limit before s) (tests limit before s t) (reasons t) 3 o (tests_tell limit before s t i) e
-      (breaks_among limit before s t i o (holds_breaks limit before part s g o h))
+  pub free : first_of (tests limit before s (called_in before s) t) (reasons t) ≡ None → IsFree limit before part
+  free e = λ o h. first_none (Breaks limit before s) (tests limit before s (called_in before s) t) (reasons t) 3 o (tests_tell limit before s t y) e
+      (breaks_among limit before s t y o (holds_breaks limit before part s g o h))

@@ -2,24 +2,26 @@
 use Rattle.std.proofs.Common.{◌≡◌, ◌≢◌, ◌∙◌, sym, ap, refl, ◌<◌, ◌⊎◌, inl, inr, ℕ, List, [], Some, None, arith}
 use Rattle.qasm_reader.specs.declared.reason.Why.{Why}
 use Rattle.qasm_reader.specs.declared.reason.Why.TheVariants.{BadByte, NoVersion, NotAStatement, OutOfProfile, UnknownName, Redeclared, UnknownRegister, IndexOutOfRange, WrongCount, SizesDiffer, RepeatedQubit, AngleRefused, OffGrid, Measured, TooManyQubits, TooManyGates}
-use Rattle.qasm_reader.specs.Statements.{Statement, version}
+use Rattle.qasm_forms.specs.Statements.{Statement, version}
+use Rattle.qasm_forms.proofs.Exact.{statements_same}
+use Rattle.qasm_reader.specs.Profile.{leaves}
 use Rattle.qasm_reader.specs.Acts.{Act}
 use Rattle.qasm_reader.specs.Parts.{Part, Has}
 use Rattle.qasm_reader.specs.Reasons.{Holds, Refuses, order}
-use Rattle.qasm_reader.specs.Parsing.{statement_at}
-use Rattle.qasm_reader.proofs.Found.{some_same}
-use Rattle.qasm_reader.proofs.Written.{statement_written}
 
 -- a part is at most one statement
 pub has_one : (before : List Act) (part : Part) (s t : Statement) → Has before part s → Has before part t → s ≡ t
-has_one before part s t a b = some_same s t (sym (statement_written s a.formed) ∙ ap statement_at (sym a.spelled ∙ b.spelled) ∙ statement_written t b.formed)
+has_one before part s t a b = statements_same (leaves before) s t a.statement b.statement (sym a.spelled ∙ b.spelled)
+
+place_same : (a b : ℕ) → Some a ≡ Some b → a ≡ b
+place_same a b e = cc
 
 -- a bad place comes first
 pub bad_refuses : (limit : ℕ) (before : List Act) (part : Part) (place : ℕ) → part.bad ≡ Some place → Refuses limit before part (BadByte place)
 bad_refuses limit before part place e = record { holds = e; first = first }
   where
     first : (o : Why) → Holds limit before part o → (o ≡ BadByte place) ⊎ (order (BadByte place) < order o)
-    first (BadByte other) h = inl (ap BadByte (some_same other place (sym h ∙ e)))
+    first (BadByte other) h = inl (ap BadByte (place_same other place (sym h ∙ e)))
     first NoVersion h = inr (omega arith)
     first NotAStatement h = inr (omega arith)
     first OutOfProfile h = inr (omega arith)

@@ -5,17 +5,14 @@ use Rattle.std.proofs.Math.Nat.{mul-suc}
 use Rattle.std.proofs.lemmas.Bool.{cases_lt, cases_order, eq-eqb}
 use Rattle.std.proofs.lemmas.Bool.Decides.{eqb_tells}
 use Rattle.std.proofs.lemmas.List.{length-map, length-replicate, length-set, map-append, get_or-map, get_or_past, get_or_append_left, get_or_at, set_past, set_at, set-append_left, append-nil}
-use Rattle.std.proofs.lemmas.List.Elements.{All-append, All-nil, All-map, All-replicate, All-push, All-weaker, All-head, All-tail}
+use Rattle.std.proofs.lemmas.List.Elements.{All-append, All-nil, All-map, All-push, All-weaker, All-head, All-tail}
 use Rattle.std.proofs.lemmas.List.Folds.{list_any-append, list_any_none}
-use Rattle.gate_set.specs.declared.kind.Kind.{Kind}
+use Rattle.std.proofs.lemmas.Grind.{flat_map-append}
 use Rattle.gate_set.specs.declared.gate.Gate.{Gate}
 use Rattle.gate_set.specs.Shape.{IsOn}
-use Rattle.qasm_reader.specs.declared.registers.Register.{Register}
-use Rattle.qasm_reader.specs.declared.registers.Target.{Target}
-use Rattle.qasm_reader.specs.Statements.{Argument}
-use Rattle.qasm_reader.specs.Acts.{Act, nothing, declares, measures, applies, qubits_in, qubit_count, along, registers_in, registers, target, targets, wholes, places, qubit_at, qubits_at, up_to, product, gates_in, gates, qubits_of, measured_in, measured, is_among}
-use Rattle.qasm_reader.specs.Scope.{flagged}
-use Rattle.qasm_reader.specs.Drafts.{Draft, EndsWithin, IsDraft, draft_of, Follows, with_qubits, with_bits, raised, place_count, with_measured, with_gates}
+use Rattle.qasm_reader.specs.Acts.{Act, nothing, declares, measures, applies, Register, Target, Item, qubits_in, qubit_count, registers_in, registers_from, registers, place_count, qubit_at, qubits_at, up_to, placed, product, gates_in, gates, qubits_of, measured_in, measured, is_among}
+use Rattle.qasm_reader.specs.Private.Scope.{flagged}
+use Rattle.qasm_reader.specs.Private.Drafts.{Draft, EndsWithin, IsDraft, draft_of, Follows, with_qubits, with_bits, raised, with_measured, with_gates}
 use Rattle.qasm_reader.proofs.Applied.{replicate_next}
 use Rattle.std.proofs.Math.Bool.{or-false}
 
@@ -38,31 +35,31 @@ length-each : {X A : Type 0} (f : X → List A) (times : ℕ) → ((x : X) → l
 length-each f times same [] = omega arith
 length-each f times same (x ∷ xs) = let h = length-each f times same xs in omega (arith, length-append (f x) (flat_map f xs), mul-suc times (length xs), same x)
 
-pub length_product : (kind : Kind) (times : ℕ) (ts : List Target) → length (product kind times ts) ≡ times * places (wholes ts)
-length_product kind times ts =
-    length-each (λ place. replicate times (record { kind = kind; on = qubits_at ts place })) times (λ place. length-replicate times _) (up_to (places (wholes ts)))
-    ∙ ap (λ n. times * n) (length-up_to (places (wholes ts)))
+pub length_product : (items : List Item) (ts : List Target) → length (product items ts) ≡ length items * place_count ts
+length_product items ts =
+    length-each (λ place. map (placed (qubits_at ts place)) items) (length items) (λ place. length-map items (placed (qubits_at ts place))) (up_to (place_count ts))
+    ∙ ap (λ n. length items * n) (length-up_to (place_count ts))
 
 pub qubit_count_more : (before : List Act) (a : Act) → qubit_count (before ++ a ∷ []) ≡ qubit_count before + qubits_in a
 qubit_count_more [] a = omega arith
 qubit_count_more (b ∷ before) a = let h = qubit_count_more before a in omega arith
 
 -- what one act more adds
-pub along_more : {X : Type 0} (adds : List Act → Act → List X) (before acts : List Act) (a : Act) → along adds before (acts ++ a ∷ []) ≡ along adds before acts ++ adds (before ++ acts) a
-along_more adds before [] a = append-nil (adds before a) ∙ ap (λ b. adds b a) (sym (append-nil before))
-along_more adds before (x ∷ acts) a =
-    ap (λ r. adds before x ++ r) (along_more adds (before ++ x ∷ []) acts a)
-    ∙ sym (append_assoc (adds before x) (along adds (before ++ x ∷ []) acts) (adds ((before ++ x ∷ []) ++ acts) a))
-    ∙ ap (λ b. (adds before x ++ along adds (before ++ x ∷ []) acts) ++ adds b a) (append_assoc before (x ∷ []) acts)
+registers_from_more : (before acts : List Act) (a : Act) → registers_from before (acts ++ a ∷ []) ≡ registers_from before acts ++ registers_in (before ++ acts) a
+registers_from_more before [] a = append-nil (registers_in before a) ∙ ap (λ b. registers_in b a) (sym (append-nil before))
+registers_from_more before (x ∷ acts) a =
+    ap (λ r. registers_in before x ++ r) (registers_from_more (before ++ x ∷ []) acts a)
+    ∙ sym (append_assoc (registers_in before x) (registers_from (before ++ x ∷ []) acts) (registers_in ((before ++ x ∷ []) ++ acts) a))
+    ∙ ap (λ b. (registers_in before x ++ registers_from (before ++ x ∷ []) acts) ++ registers_in b a) (append_assoc before (x ∷ []) acts)
 
 pub registers_more : (before : List Act) (a : Act) → registers (before ++ a ∷ []) ≡ registers before ++ registers_in before a
-registers_more before a = along_more registers_in [] before a
+registers_more before a = registers_from_more [] before a
 
-pub gates_more : (before : List Act) (a : Act) → gates (before ++ a ∷ []) ≡ gates before ++ gates_in before a
-gates_more before a = along_more gates_in [] before a
+pub gates_more : (before : List Act) (a : Act) → gates (before ++ a ∷ []) ≡ gates before ++ gates_in a
+gates_more before a = flat_map-append gates_in before (a ∷ []) ∙ ap (λ r. gates before ++ r) (append-nil (gates_in a))
 
-pub measured_more : (before : List Act) (a : Act) → measured (before ++ a ∷ []) ≡ measured before ++ measured_in before a
-measured_more before a = along_more measured_in [] before a
+pub measured_more : (before : List Act) (a : Act) → measured (before ++ a ∷ []) ≡ measured before ++ measured_in a
+measured_more before a = flat_map-append measured_in before (a ∷ []) ∙ ap (λ r. measured before ++ r) (append-nil (measured_in a))
 
 other_number : (p q : ℕ) → q ≢ p → nat_eq q p ≡ false
 other_number p q h = by (eqb_tells q p)
@@ -152,10 +149,10 @@ all_flat_map P f [] h = All-nil P
 all_flat_map P f (x ∷ xs) h =
     All-append P (f x) (flat_map f xs) (All-head (λ x. All P (f x)) x xs h) (all_flat_map P f xs (All-tail (λ x. All P (f x)) x xs h))
 
-all_product : (P : Gate → Type 0) (kind : Kind) (times : ℕ) (ts : List Target) → ((place : ℕ) → place < places (wholes ts) → P (record { kind = kind; on = qubits_at ts place })) → All P (product kind times ts)
-all_product P kind times ts h =
-    all_flat_map P (λ place. replicate times (record { kind = kind; on = qubits_at ts place })) (up_to (places (wholes ts)))
-    (All-up_to (λ place. All P (replicate times (record { kind = kind; on = qubits_at ts place }))) (places (wholes ts)) (λ place l. All-replicate P times _ (h place l)))
+all_product : (P : Gate → Type 0) (items : List Item) (ts : List Target) → ((place : ℕ) → place < place_count ts → All P (map (placed (qubits_at ts place)) items)) → All P (product items ts)
+all_product P items ts h =
+    all_flat_map P (λ place. map (placed (qubits_at ts place)) items) (up_to (place_count ts))
+    (All-up_to (λ place. All P (map (placed (qubits_at ts place)) items)) (place_count ts) h)
 
 ends_more : (n m : ℕ) → n ≤ m → (rs : List (List ℕ × Register)) → AllByRecursion (EndsWithin n) rs → AllByRecursion (EndsWithin m) rs
 ends_more n m h [] a = tt
@@ -199,16 +196,16 @@ module _ (limit : ℕ) (before : List Act) (d : Draft) (f : Follows limit before
   same_qubits : (a : Act) → qubits_in a ≡ 0 → d.qubits ≡ qubit_count (before ++ a ∷ [])
   same_qubits a e = let q = their_qubits in let m = qubit_count_more before a in omega arith
 
-  same_gates : (a : Act) → gates_in before a ≡ [] → d.gates ≡ gates (before ++ a ∷ [])
+  same_gates : (a : Act) → gates_in a ≡ [] → d.gates ≡ gates (before ++ a ∷ [])
   same_gates a e = their_gates ∙ sym (gates_more before a ∙ ap (λ r. gates before ++ r) e ∙ append-nil (gates before))
 
-  same_measured : (a : Act) → measured_in before a ≡ [] → measured before ≡ measured (before ++ a ∷ [])
+  same_measured : (a : Act) → measured_in a ≡ [] → measured before ≡ measured (before ++ a ∷ [])
   same_measured a e = sym (measured_more before a ∙ ap (λ r. measured before ++ r) e ∙ append-nil (measured before))
 
-  same_flags : (a : Act) → measured_in before a ≡ [] → qubits_in a ≡ 0 → d.measured ≡ map (is_among (measured (before ++ a ∷ []))) (up_to (qubit_count (before ++ a ∷ [])))
+  same_flags : (a : Act) → measured_in a ≡ [] → qubits_in a ≡ 0 → d.measured ≡ map (is_among (measured (before ++ a ∷ []))) (up_to (qubit_count (before ++ a ∷ [])))
   same_flags a e z = their_flags ∙ flags_are (measured before) (measured (before ++ a ∷ [])) (qubit_count before) (qubit_count (before ++ a ∷ [])) (same_measured a e) (sym their_qubits ∙ same_qubits a z)
 
-  same_marked : (a : Act) → measured_in before a ≡ [] → All (λ q. q < d.qubits) (measured (before ++ a ∷ []))
+  same_marked : (a : Act) → measured_in a ≡ [] → All (λ q. q < d.qubits) (measured (before ++ a ∷ []))
   same_marked a e = subst (All (λ q. q < d.qubits)) (same_measured a e) f.marked
 
   pub follows_nothing : Follows limit (before ++ nothing ∷ []) d
@@ -272,20 +269,19 @@ module _ (limit : ℕ) (before : List Act) (d : Draft) (f : Follows limit before
         registers_end = ends_push d.qubits d.registers (name, record { quantum = false; first = 0; size = size }) f.fits.registers_end (λ e. absurd cc);
       }
 
-  pub follows_measures : (a : Argument) (t : Target) → t ≡ target d.registers a → ((place : ℕ) → place < place_count t → qubit_at place t < d.qubits)
-      → Follows limit (before ++ measures a ∷ []) (with_measured d (qubits_of t))
-  follows_measures a t e below = record { is = is; fits = fits; few = f.few; marked = marked }
+  pub follows_measures : (t : Target) → ((place : ℕ) → place < place_count (t ∷ []) → qubit_at place t < d.qubits) → Follows limit (before ++ measures t ∷ []) (with_measured d (qubits_of t))
+  follows_measures t below = record { is = is; fits = fits; few = f.few; marked = marked }
     where
-      more : measured before ++ qubits_of t ≡ measured (before ++ measures a ∷ [])
-      more = ap (λ t. measured before ++ qubits_of t) (e ∙ ap (λ r. target r a) their_registers) ∙ sym (measured_more before (measures a))
+      more : measured before ++ qubits_of t ≡ measured (before ++ measures t ∷ [])
+      more = sym (measured_more before (measures t))
 
-      flags : raised d.measured (qubits_of t) ≡ map (is_among (measured (before ++ measures a ∷ []))) (up_to (qubit_count (before ++ measures a ∷ [])))
+      flags : raised d.measured (qubits_of t) ≡ map (is_among (measured (before ++ measures t ∷ []))) (up_to (qubit_count (before ++ measures t ∷ [])))
       flags =
           ap (λ l. raised l (qubits_of t)) their_flags ∙ raised_is (qubit_count before) (measured before) (qubits_of t)
-          ∙ flags_are (measured before ++ qubits_of t) (measured (before ++ measures a ∷ [])) (qubit_count before) (qubit_count (before ++ measures a ∷ [])) more (sym their_qubits ∙ same_qubits (measures a) refl)
+          ∙ flags_are (measured before ++ qubits_of t) (measured (before ++ measures t ∷ [])) (qubit_count before) (qubit_count (before ++ measures t ∷ [])) more (sym their_qubits ∙ same_qubits (measures t) refl)
 
-      is : with_measured d (qubits_of t) ≡ draft_of (before ++ measures a ∷ [])
-      is = draft_is (with_measured d (qubits_of t)) (before ++ measures a ∷ []) (same_registers (measures a) refl) (same_qubits (measures a) refl) (same_gates (measures a) refl) flags
+      is : with_measured d (qubits_of t) ≡ draft_of (before ++ measures t ∷ [])
+      is = draft_is (with_measured d (qubits_of t)) (before ++ measures t ∷ []) (same_registers (measures t) refl) (same_qubits (measures t) refl) (same_gates (measures t) refl) flags
 
       fits : IsDraft (with_measured d (qubits_of t))
       fits = record {
@@ -296,30 +292,28 @@ module _ (limit : ℕ) (before : List Act) (d : Draft) (f : Follows limit before
         registers_end = f.fits.registers_end;
       }
 
-      marked : All (λ q. q < d.qubits) (measured (before ++ measures a ∷ []))
+      marked : All (λ q. q < d.qubits) (measured (before ++ measures t ∷ []))
       marked = subst (All (λ q. q < d.qubits)) more (All-append (λ q. q < d.qubits) (measured before) (qubits_of t) f.marked
-          (All-map (λ q. q < d.qubits) (λ place. qubit_at place t) (up_to (place_count t)) (All-up_to (λ place. qubit_at place t < d.qubits) (place_count t) below)))
+          (All-map (λ q. q < d.qubits) (λ place. qubit_at place t) (up_to (place_count (t ∷ []))) (All-up_to (λ place. qubit_at place t < d.qubits) (place_count (t ∷ [])) below)))
 
-  pub follows_applies : (kind : Kind) (times : ℕ) (all : List Argument) (ts : List Target) → ts ≡ targets d.registers all
-      → ((place : ℕ) → place < places (wholes ts) → IsOn d.qubits (record { kind = kind; on = qubits_at ts place }))
-      → length d.gates + times * places (wholes ts) ≤ 1000000
-      → Follows limit (before ++ applies kind times all ∷ []) (with_gates d (product kind times ts))
-  follows_applies kind times all ts e on fit = record { is = is; fits = fits; few = f.few; marked = same_marked a refl }
+  pub follows_applies : (items : List Item) (ts : List Target)
+      → ((place : ℕ) → place < place_count ts → All (IsOn d.qubits) (map (placed (qubits_at ts place)) items))
+      → length d.gates + length items * place_count ts ≤ 1000000
+      → Follows limit (before ++ applies items ts ∷ []) (with_gates d (product items ts))
+  follows_applies items ts on fit = record { is = is; fits = fits; few = f.few; marked = same_marked a refl }
     where
       a : Act
-      a = applies kind times all
+      a = applies items ts
 
-      more : d.gates ++ product kind times ts ≡ gates (before ++ a ∷ [])
-      more = ap (λ g. g ++ product kind times ts) their_gates ∙ ap (λ ts. gates before ++ product kind times ts) (e ∙ ap (λ r. targets r all) their_registers) ∙ sym (gates_more before a)
+      is : with_gates d (product items ts) ≡ draft_of (before ++ a ∷ [])
+      is = draft_is (with_gates d (product items ts)) (before ++ a ∷ []) (same_registers a refl) (same_qubits a refl)
+          (ap (λ g. g ++ product items ts) their_gates ∙ sym (gates_more before a)) (same_flags a refl refl)
 
-      is : with_gates d (product kind times ts) ≡ draft_of (before ++ a ∷ [])
-      is = draft_is (with_gates d (product kind times ts)) (before ++ a ∷ []) (same_registers a refl) (same_qubits a refl) more (same_flags a refl refl)
-
-      fits : IsDraft (with_gates d (product kind times ts))
+      fits : IsDraft (with_gates d (product items ts))
       fits = record {
         few_qubits = f.fits.few_qubits;
-        few_gates = (let n = length_product kind times ts in let m = length-append d.gates (product kind times ts) in omega arith);
-        within = All-append (IsOn d.qubits) d.gates (product kind times ts) f.fits.within (all_product (IsOn d.qubits) kind times ts on);
+        few_gates = (let n = length_product items ts in let m = length-append d.gates (product items ts) in omega arith);
+        within = All-append (IsOn d.qubits) d.gates (product items ts) f.fits.within (all_product (IsOn d.qubits) items ts on);
         flags = f.fits.flags;
         registers_end = f.fits.registers_end;
       }

@@ -1,15 +1,30 @@
 -- Registers by name, in the map and in the list.
-use Rattle.std.proofs.Common.{◌≡◌, ap, refl, ℕ, cond, List, [], ◌∷◌, ◌++◌, map, Some}
+use Rattle.std.proofs.Common.{◌≡◌, ◌∙◌, ap, refl, ℕ, Bool, true, false, cond, not, List, [], ◌∷◌, ◌++◌, map, is_some, Option, Some, None}
 use Rattle.std.specs.Str.{bytes_eq}
 use Rattle.std.specs.Borrow.{Bor}
 use Rattle.std.specs.Map.{lookup}
-use Rattle.qasm_reader.specs.declared.registers.Register.{Register}
-use Rattle.qasm_reader.specs.Scope.{named}
+use Rattle.qasm_reader.specs.declared.registers.Register.{Register as Row}
+use Rattle.qasm_reader.specs.Private.Seen.{seen_register, seen_row, entry_of}
 
-pub lookup_named : (name : List ℕ) (es : List (Bor (List ℕ) × Register)) → lookup (λ (k : Bor (List ℕ)). bytes_eq name k.now) es ≡ lookup (bytes_eq name) (map named es)
+row_cond : (b : Bool) (r : Row) (x : Option Row) → seen_row (cond b (Some r) x) ≡ cond b (Some (seen_register r)) (seen_row x)
+row_cond true r x = refl
+row_cond false r x = refl
+
+pub lookup_named : (name : List ℕ) (es : List (Bor (List ℕ) × Row)) → seen_row (lookup (λ (k : Bor (List ℕ)). bytes_eq name k.now) es) ≡ lookup (bytes_eq name) (map entry_of es)
 lookup_named name [] = refl
-lookup_named name (e ∷ es) = ap (λ r. cond (bytes_eq name e.0.now) (Some e.1) r) (lookup_named name es)
+lookup_named name (e ∷ es) =
+    row_cond (bytes_eq name e.0.now) e.1 (lookup (λ (k : Bor (List ℕ)). bytes_eq name k.now) es)
+    ∙ ap (λ r. cond (bytes_eq name e.0.now) (Some (seen_register e.1)) r) (lookup_named name es)
 
-pub named_append : (es : List (Bor (List ℕ) × Register)) (e : Bor (List ℕ) × Register) → map named (es ++ e ∷ []) ≡ map named es ++ named e ∷ []
+pub named_append : (es : List (Bor (List ℕ) × Row)) (e : Bor (List ℕ) × Row) → map entry_of (es ++ e ∷ []) ≡ map entry_of es ++ entry_of e ∷ []
 named_append [] e = refl
-named_append (d ∷ es) e = ap (λ r. named d ∷ r) (named_append es e)
+named_append (d ∷ es) e = ap (λ r. entry_of d ∷ r) (named_append es e)
+
+-- whether there is a row
+pub row_there : (x : Option Row) → is_some (seen_row x) ≡ is_some x
+row_there None = refl
+row_there (Some r) = refl
+
+pub no_row : (x : Option Row) → not (is_some x) ≡ true → x ≡ None
+no_row None e = refl
+no_row (Some r) e = absurd cc

@@ -1,83 +1,52 @@
 -- A text reads in one way.
 use Rattle.std.proofs.Common.{◌≡◌, ◌∙◌, sym, ap, refl, subst, ℕ, ◌+◌, List, [], ◌∷◌, ◌++◌, length, Option, Some, Result, Ok, Err, IfOk, IfErr, arith, append_assoc, append-nil}
-use Rattle.gate_set.specs.declared.kind.Kind.{Kind}
-use Rattle.qasm_lex.specs.declared.refusal.AngleRefusal.{AngleRefusal}
-use Rattle.qasm_lex.specs.Fractions.{Ratio}
-use Rattle.qasm_lex.specs.Quarters.{IsQuarters}
 use Rattle.qasm_lex.proofs.Cuts.{tokens_same}
-use Rattle.qasm_lex.proofs.OneAnswer.{one_answer}
-use Rattle.qasm_lex.proofs.OneQuarters.{one_quarters}
-use Rattle.qasm_lex.proofs.Denominators.{answer_positive}
-use Rattle.qasm_reader.specs.declared.builtin.Builtin.{Builtin}
-use Rattle.qasm_reader.specs.declared.builtin.Builtin.TheVariants.{Gate, Turn}
-use Rattle.qasm_reader.specs.declared.turn.Turned.TheVariants.{Quarters}
+use Rattle.qasm_lex.specs.Lexemes.{Lexeme, lexemes_of}
 use Rattle.qasm_reader.specs.declared.reason.Why.{Why}
 use Rattle.qasm_reader.specs.declared.reason.ReadStop.{ReadStop}
 use Rattle.qasm_reader.specs.declared.reason.ReadStop.TheVariants.{Refused as Stopped, OutOfMemory}
 use Rattle.gate_set.specs.Circuits.{Circuit}
-use Rattle.qasm_reader.specs.Lexemes.{Lexeme, symbols, lexemes_of}
-use Rattle.qasm_reader.specs.Statements.{Statement, version, include, qubits, bits, barrier, measure, call, left_out, Argument}
-use Rattle.qasm_reader.specs.Acts.{Act, applies, circuit_of}
-use Rattle.qasm_reader.specs.Calls.{builtin, turn_kind, turn_times, IsTurned, Calls, plain, turned, Does}
+use Rattle.qasm_forms.specs.Statements.{Statement, version, include, qubits, bits, barrier, measure, call, left_out, Argument}
+use Rattle.qasm_reader.specs.Acts.{Act, Item, Target, measures, applies, circuit_of}
+use Rattle.qasm_reader.specs.Calls.{gate_named, Calls, Does}
 use Rattle.qasm_reader.specs.Parts.{Part, parts_of}
 use Rattle.qasm_reader.specs.Reasons.{Holds, Refuses, IsFree}
 use Rattle.qasm_reader.specs.Reading.{Accepts, AllAccepted, Reading, circuit, refusal, IsRefused, Reads, ReadsAs, IfRefused, Says}
+use Rattle.qasm_reader.specs.Private.Tests.{Taken}
 use Rattle.qasm_reader.proofs.Good.{has_one, one_refusal}
+use Rattle.qasm_reader.proofs.Yielding.{yields_one}
 
--- an angle is one number of quarter turns
-same_ratio : (f g : Ratio) → ◌≡◌ {A = Result Ratio AngleRefusal} (Ok f) (Ok g) → g ≡ f
-same_ratio f g e = cc
+some_same : {X : Type 0} (x y : X) → Some x ≡ Some y → x ≡ y
+some_same x y e = cc
 
-quarters_one : (angle : List Lexeme) (m k : ℕ) → IsTurned angle (Quarters m) → IsTurned angle (Quarters k) → m ≡ k
-quarters_one angle m k p q =
-    let e : q.0 ≡ p.0 = same_ratio p.0 q.0 (one_answer (symbols angle) (Ok p.0) (Ok q.0) p.1 q.1) in
-    one_quarters p.0 m k (answer_positive (symbols angle) p.0 p.1) p.2 (subst (λ f. IsQuarters f k) e q.2)
+items_same : (x y : List Item) → ◌≡◌ {A = Taken} (Ok (Some x)) (Ok (Some y)) → x ≡ y
+items_same x y e = cc
 
 -- a call does one thing
-plain_one : (gate : Option Builtin) (kind other : Kind) → gate ≡ Some (Gate kind) → gate ≡ Some (Gate other) → kind ≡ other
-plain_one gate kind other e f = let q : Some (Gate kind) ≡ Some (Gate other) = sym e ∙ f in cc
+calls_one : (before : List Act) (name : List ℕ) (angles : List (List Lexeme)) (all : List Argument) (a b : Act) → Calls before name angles all a → Calls before name angles all b → a ≡ b
+calls_one before name angles all a b p q =
+    let items = items_same p.items q.items (yields_one (gate_named before name) angles (Ok (Some p.items)) (Ok (Some q.items)) (p.called, p.values, p.named, p.valued, p.gives) (q.called, q.values, q.named, q.valued, q.gives)) in
+    let on : p.on ≡ q.on = some_same p.on q.on (sym p.means ∙ q.means) in
+    p.does ∙ ap (λ x. applies x p.on) items ∙ ap (applies q.items) on ∙ sym q.does
 
-not_both : (gate : Option Builtin) (kind forth back : Kind) → gate ≡ Some (Gate kind) → gate ≡ Some (Turn forth back) → ⊥
-not_both gate kind forth back e f = let q : Some (Gate kind) ≡ Some (Turn forth back) = sym e ∙ f in cc
-
-forth_one : (gate : Option Builtin) (f b g d : Kind) → gate ≡ Some (Turn f b) → gate ≡ Some (Turn g d) → f ≡ g
-forth_one gate f b g d e h = let q : Some (Turn f b) ≡ Some (Turn g d) = sym e ∙ h in cc
-
-back_one : (gate : Option Builtin) (f b g d : Kind) → gate ≡ Some (Turn f b) → gate ≡ Some (Turn g d) → b ≡ d
-back_one gate f b g d e h = let q : Some (Turn f b) ≡ Some (Turn g d) = sym e ∙ h in cc
-
-angle_one : (angles : Option (List (List Lexeme))) (a b : List Lexeme) → angles ≡ Some (a ∷ []) → angles ≡ Some (b ∷ []) → a ≡ b
-angle_one angles a b e f = let q : Some (a ∷ []) ≡ Some (b ∷ []) = sym e ∙ f in cc
-
-turn_act_one : (f g b d : Kind) (m k : ℕ) (all : List Argument) → f ≡ g → b ≡ d → m ≡ k → applies (turn_kind f b m) (turn_times m) all ≡ applies (turn_kind g d k) (turn_times k) all
-turn_act_one f g b d m k all e h q =
-    ap (λ x. applies (turn_kind x b m) (turn_times m) all) e ∙ ap (λ x. applies (turn_kind g x m) (turn_times m) all) h
-    ∙ ap (λ x. applies (turn_kind g d x) (turn_times x) all) q
-
-calls_one : (name : List ℕ) (angles : Option (List (List Lexeme))) (all : List Argument) (a b : Act) → Calls name angles all a → Calls name angles all b → a ≡ b
-calls_one name angles all a b (plain kind e p) (plain other f q) = p ∙ ap (λ k. applies k 1 all) (plain_one (builtin name) kind other e f) ∙ sym q
-calls_one name angles all a b (plain kind e p) (turned forth back angle m f g t q) = absurd (not_both (builtin name) kind forth back e f)
-calls_one name angles all a b (turned forth back angle m e g t p) (plain kind f q) = absurd (not_both (builtin name) kind forth back f e)
-calls_one name angles all a b (turned forth back angle m e g t p) (turned fore aft bend k f h u q) =
-    let same : bend ≡ angle = angle_one angles bend angle h g in
-    let turns : m ≡ k = quarters_one angle m k t (subst (λ x. IsTurned x (Quarters k)) same u) in
-    p ∙ turn_act_one forth fore back aft m k all (forth_one (builtin name) forth back fore aft e f) (back_one (builtin name) forth back fore aft e f) turns ∙ sym q
+measures_one : (x : Option Target) (a b : Act) → (t : Target) × (x ≡ Some t) × (a ≡ measures t) → (t : Target) × (x ≡ Some t) × (b ≡ measures t) → a ≡ b
+measures_one x a b p q = p.2 ∙ ap measures (some_same p.0 q.0 (sym p.1 ∙ q.1)) ∙ sym q.2
 
 -- a statement does one thing
-pub does_one : (s : Statement) (a b : Act) → Does s a → Does s b → a ≡ b
-does_one version a b p q = p ∙ sym q
-does_one (include text) a b p q = p ∙ sym q
-does_one (qubits name size) a b p q = p ∙ sym q
-does_one (bits name size) a b p q = p ∙ sym q
-does_one (barrier all) a b p q = p ∙ sym q
-does_one (measure from to) a b p q = p ∙ sym q
-does_one (call name angles all) a b p q = calls_one name angles all a b p q
-does_one (left_out name more) a b p q = p ∙ sym q
+pub does_one : (before : List Act) (s : Statement) (a b : Act) → Does before s a → Does before s b → a ≡ b
+does_one before version a b p q = p ∙ sym q
+does_one before (include text) a b p q = p ∙ sym q
+does_one before (qubits name size) a b p q = p ∙ sym q
+does_one before (bits name size) a b p q = p ∙ sym q
+does_one before (barrier all) a b p q = p ∙ sym q
+does_one before (measure from to) a b p q = measures_one _ a b p q
+does_one before (call name angles all) a b p q = calls_one before name _ all a b p q
+does_one before (left_out name more) a b p q = p ∙ sym q
 
 -- an accepted part does one thing
 pub accepts_one : (limit : ℕ) (before : List Act) (part : Part) (a b : Act) → Accepts limit before part a → Accepts limit before part b → a ≡ b
 accepts_one limit before part a b p q =
-    does_one p.statement a b p.does (subst (λ s. Does s b) (has_one before part q.statement p.statement q.has p.has) q.does)
+    does_one before p.statement a b p.does (subst (λ s. Does before s b) (has_one before part q.statement p.statement q.has p.has) q.does)
 
 -- parts that are all accepted do the same
 pub all_accepted_one : (limit : ℕ) (before : List Act) (parts : List Part) (xs ys : List Act) → AllAccepted limit before parts xs → AllAccepted limit before parts ys → xs ≡ ys

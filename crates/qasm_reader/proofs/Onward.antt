@@ -1,5 +1,5 @@
 -- Statements of a text, one after the other.
-use Rattle.std.proofs.Common.{◌≡◌, ◌≢◌, ◌∙◌, sym, ap, refl, subst, ℕ, suc, ◌+◌, Bool, true, false, cond, nat_eq, List, [], ◌∷◌, ◌++◌, length, append_assoc, Option, Some, None, Result, Ok, Err, IfOk, IfErr, arith}
+use Rattle.std.proofs.Common.{◌≡◌, ◌≢◌, ◌∙◌, sym, ap, refl, subst, ℕ, suc, ◌+◌, Bool, true, false, cond, nat_eq, List, [], ◌∷◌, ◌++◌, length, append_assoc, Option, Some, None, Result, Ok, Err, IfErr, arith}
 use Rattle.std.proofs.lemmas.Bool.Decides.{nat_tests}
 use Rattle.std.proofs.lemmas.List.{length-append}
 use Rattle.std.proofs.lemmas.List.Elements.{All-nil}
@@ -8,15 +8,16 @@ use Rattle.qasm_reader.specs.declared.reason.Why.TheVariants.{BadByte, NoVersion
 use Rattle.qasm_reader.specs.declared.reason.Refusal.{Refusal}
 use Rattle.qasm_reader.specs.declared.reason.ReadStop.{ReadStop}
 use Rattle.qasm_reader.specs.declared.reason.ReadStop.TheVariants.{Refused as Stopped, OutOfMemory}
-use Rattle.qasm_reader.specs.Lexemes.{Lexeme, is_mark}
+use Rattle.qasm_lex.specs.Lexemes.{Lexeme, word}
+use Rattle.qasm_forms.specs.Statements.{Statement, version, is_mark, first_word, written_rest, written}
+use Rattle.qasm_forms.specs.declared.lexemes.Stop.TheVariants.{Semicolon}
+use Rattle.qasm_forms.specs.Cutting.{is_nothing, is_stop, has_stop, before_stop, after_stop}
 use Rattle.qasm_reader.specs.Acts.{Act, circuit_of}
-use Rattle.qasm_reader.specs.Parts.{Part, last_part, led, parts_of}
+use Rattle.qasm_reader.specs.Parts.{Part, last_part, cut, parts_of}
 use Rattle.qasm_reader.specs.Reasons.{Refuses}
 use Rattle.qasm_reader.specs.Reading.{Accepts, AllAccepted, circuit, refusal, IsRefused, Reads, IfRefused}
-use Rattle.qasm_reader.specs.declared.lexemes.Stop.TheVariants.{Semicolon}
-use Rattle.qasm_reader.specs.Fronts.{is_nothing, is_stop, has_stop, before_stop, after_stop}
-use Rattle.qasm_reader.proofs.PartCuts.{parts_cut}
-use Rattle.qasm_reader.specs.Drafts.{Draft, Follows, Concludes, Reached, circuit_in, closed_part, draft_of, is_first, no_form}
+use Rattle.qasm_reader.proofs.PartCuts.{parts_cut, ended_stops}
+use Rattle.qasm_reader.specs.Private.Drafts.{Draft, Follows, Concludes, Reached, circuit_in, ended_part, draft_of, is_first, no_form}
 use Rattle.qasm_reader.proofs.Good.{bad_refuses, version_refuses, form_refuses}
 use Rattle.std.proofs.lemmas.List.{append-nil}
 
@@ -99,25 +100,33 @@ refused_reads limit [] number why r = absurd (none r.good r.bad r.more r.split)
 refused_reads limit (p ∷ ps) number why r = r
 
 -- a text with tokens or a bad place has statements
-pub some_parts : (ls : List Lexeme) (bad : Option ℕ) → parts_of ls bad ≡ [] → (ls ≡ []) × (bad ≡ None)
-unfolding parts_of
-some_parts [] None e = (refl, refl)
-some_parts [] (Some b) e = absurd cc
-some_parts (l ∷ ls) bad e = absurd (by (is_mark 59 l) (parts_of ls bad) e)
+some_cut : (before ls : List Lexeme) (bad : Option ℕ) → cut before ls bad ≡ [] → (before ≡ []) × (ls ≡ []) × (bad ≡ None)
+unfolding cut
+some_cut [] [] None e = (refl, refl, refl)
+some_cut [] [] (Some b) e = absurd cc
+some_cut (x ∷ before) [] bad e = absurd cc
+some_cut before (l ∷ ls) bad e = absurd (by (is_mark 59 l) (some_cut (before ++ l ∷ []) ls bad) e)
   where
-    by : (x : Bool) (ps : List Part) → cond x (record { lexemes = []; closed = true; bad = None } ∷ ps) (led l ps bad) ≡ [] → ⊥
-    by true ps e = cc
-    by false [] e = cc
-    by false (p ∷ ps) e = cc
+    longer : (before : List Lexeme) → before ++ l ∷ [] ≡ [] → ⊥
+    longer [] e = cc
+    longer (x ∷ before) e = cc
+
+    by : (x : Bool) → (cut (before ++ l ∷ []) ls bad ≡ [] → (before ++ l ∷ [] ≡ []) × (ls ≡ []) × (bad ≡ None))
+        → cond x (record { lexemes = before ++ l ∷ []; bad = None } ∷ cut [] ls bad) (cut (before ++ l ∷ []) ls bad) ≡ [] → ⊥
+    by true more e = cc
+    by false more e = longer before (more e).0
+
+some_parts : (ls : List Lexeme) (bad : Option ℕ) → parts_of ls bad ≡ [] → (ls ≡ []) × (bad ≡ None)
+some_parts ls bad e = let c = some_cut [] ls bad e in (c.1, c.2)
 
 -- the end of a text: a bad place
-last_bad : (ls : List Lexeme) (place : ℕ) → last_part ls (Some place) ≡ record { lexemes = ls; closed = false; bad = Some place } ∷ []
+last_bad : (ls : List Lexeme) (place : ℕ) → last_part ls (Some place) ≡ record { lexemes = ls; bad = Some place } ∷ []
 last_bad [] place = refl
 last_bad (l ∷ ls) place = refl
 
 pub end_bad : (limit : ℕ) (all : List Part) (d : Draft) (number : ℕ) (ls : List Lexeme) (place : ℕ) → Reached limit all (last_part ls (Some place)) d number → Reads limit all (refusal number (BadByte place))
 end_bad limit all d number ls place r =
-    let p : Part = record { lexemes = ls; closed = false; bad = Some place } in
+    let p : Part = record { lexemes = ls; bad = Some place } in
     refused_reads limit all number (BadByte place) (record {
       good = r.good;
       bad = p;
@@ -130,18 +139,21 @@ end_bad limit all d number ls place r =
     })
 
 -- or lexemes without a `;`
-last_open : (ls : List Lexeme) → is_nothing ls ≡ false → last_part ls None ≡ record { lexemes = ls; closed = false; bad = None } ∷ []
+last_open : (ls : List Lexeme) → is_nothing ls ≡ false → last_part ls None ≡ record { lexemes = ls; bad = None } ∷ []
 last_open [] e = absurd cc
 last_open (l ∷ ls) e = refl
 
-open_refuses : (limit : ℕ) (acts : List Act) (ls : List Lexeme) (first : Bool) → first ≡ is_first acts → Refuses limit acts (record { lexemes = ls; closed = false; bad = None }) (no_form first)
-open_refuses limit acts ls true e = version_refuses limit acts _ refl (is_empty acts (sym e)) (λ h. (let q : false ≡ true = h.closed in cc))
-open_refuses limit acts ls false e = form_refuses limit acts _ refl (not_nothing acts (sym e)) (λ s h. (let q : false ≡ true = h.closed in cc))
+no_end : (ls : List Lexeme) → has_stop Semicolon ls ≡ false → (s : Statement) → ls ≡ written s → ⊥
+no_end ls o s e = let q : false ≡ true = sym o ∙ ap (has_stop Semicolon) e ∙ ended_stops (word (first_word s) ∷ written_rest s) in cc
 
-pub end_open : (limit : ℕ) (all : List Part) (d : Draft) (number : ℕ) (ls : List Lexeme) → is_nothing ls ≡ false → Reached limit all (last_part ls None) d number
+open_refuses : (limit : ℕ) (acts : List Act) (ls : List Lexeme) (first : Bool) → has_stop Semicolon ls ≡ false → first ≡ is_first acts → Refuses limit acts (record { lexemes = ls; bad = None }) (no_form first)
+open_refuses limit acts ls true o e = version_refuses limit acts _ refl (is_empty acts (sym e)) (λ h. no_end ls o version h.spelled)
+open_refuses limit acts ls false o e = form_refuses limit acts _ refl (not_nothing acts (sym e)) (λ s h. no_end ls o s h.spelled)
+
+pub end_open : (limit : ℕ) (all : List Part) (d : Draft) (number : ℕ) (ls : List Lexeme) → has_stop Semicolon ls ≡ false → is_nothing ls ≡ false → Reached limit all (last_part ls None) d number
     → Reads limit all (refusal number (no_form (nat_eq number 1)))
-end_open limit all d number ls n r =
-    let p : Part = record { lexemes = ls; closed = false; bad = None } in
+end_open limit all d number ls o n r =
+    let p : Part = record { lexemes = ls; bad = None } in
     refused_reads limit all number (no_form (nat_eq number 1)) (record {
       good = r.good;
       bad = p;
@@ -149,7 +161,7 @@ end_open limit all d number ls n r =
       acts = r.acts;
       split = r.split ∙ ap (λ x. r.good ++ x) (last_open ls n);
       accepted = r.accepted;
-      refuses = open_refuses limit r.acts ls (nat_eq number 1) (number_first limit all d number (last_part ls None) r);
+      refuses = open_refuses limit r.acts ls (nat_eq number 1) o (number_first limit all d number (last_part ls None) r);
       count = r.count;
     })
 
@@ -160,9 +172,9 @@ end_none limit all d number [] n some r = reached_end limit all d number some r
 end_none limit all d number (l ∷ ls) n some r = absurd cc
 
 -- the front of a text: up to its first `;`
-pub cut_closed : (ls : List Lexeme) (bad : Option ℕ) → has_stop Semicolon ls ≡ true → parts_of ls bad ≡ closed_part (before_stop Semicolon ls) ∷ parts_of (after_stop Semicolon ls) bad
+pub cut_closed : (ls : List Lexeme) (bad : Option ℕ) → has_stop Semicolon ls ≡ true → parts_of ls bad ≡ ended_part (before_stop Semicolon ls) ∷ parts_of (after_stop Semicolon ls) bad
 cut_closed ls bad e =
-    parts_cut ls bad ∙ ap (λ b. cond b (closed_part (before_stop Semicolon ls) ∷ parts_of (after_stop Semicolon ls) bad) (last_part ls bad)) e
+    parts_cut ls bad ∙ ap (λ b. cond b (ended_part (before_stop Semicolon ls) ∷ parts_of (after_stop Semicolon ls) bad) (last_part ls bad)) e
 
 no_stop : (ls : List Lexeme) → has_stop Semicolon ls ≡ false → before_stop Semicolon ls ≡ ls
 no_stop [] e = refl
@@ -172,15 +184,19 @@ no_stop (l ∷ ls) e = by (is_stop Semicolon l) (no_stop ls) e
     by true more e = absurd cc
     by false more e = ap (λ r. l ∷ r) (more e)
 
+-- its front then has no end
+pub no_stop_before : (ls : List Lexeme) → has_stop Semicolon ls ≡ false → has_stop Semicolon (before_stop Semicolon ls) ≡ false
+no_stop_before ls e = ap (has_stop Semicolon) (no_stop ls e) ∙ e
+
 -- or to its end
 pub cut_open : (ls : List Lexeme) (bad : Option ℕ) → has_stop Semicolon ls ≡ false → parts_of ls bad ≡ last_part (before_stop Semicolon ls) bad
 cut_open ls bad e =
-    parts_cut ls bad ∙ ap (λ b. cond b (closed_part (before_stop Semicolon ls) ∷ parts_of (after_stop Semicolon ls) bad) (last_part ls bad)) e
+    parts_cut ls bad ∙ ap (λ b. cond b (ended_part (before_stop Semicolon ls) ∷ parts_of (after_stop Semicolon ls) bad) (last_part ls bad)) e
     ∙ ap (λ l. last_part l bad) (sym (no_stop ls e))
 
 -- a text with nothing in it
 pub nothing_reads : (limit : ℕ) (ls : List Lexeme) (bad : Option ℕ) → is_nothing ls ≡ true → bad ≡ None → Reads limit (parts_of ls bad) (refusal 0 NoVersion)
-unfolding parts_of
+unfolding cut
 nothing_reads limit [] None n e = refl
 nothing_reads limit [] (Some b) n e = absurd cc
 nothing_reads limit (l ∷ ls) bad n e = absurd cc

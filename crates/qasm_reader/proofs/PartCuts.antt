@@ -1,34 +1,54 @@
 -- The statements of a text, one after the other.
-use Rattle.std.proofs.Common.{◌≡◌, ◌∙◌, ap, refl, ℕ, Bool, true, false, cond, List, [], ◌∷◌, Option, Some, None}
-use Rattle.qasm_reader.specs.declared.lexemes.Stop.TheVariants.{Semicolon}
-use Rattle.qasm_reader.specs.Lexemes.{Lexeme, is_mark}
-use Rattle.qasm_reader.specs.Fronts.{is_stop, before_stop, has_stop, after_stop}
-use Rattle.qasm_reader.specs.Parts.{Part, last_part, led, parts_of}
+use Rattle.std.proofs.Common.{◌≡◌, ◌∙◌, sym, ap, refl, ℕ, Bool, true, false, cond, List, [], ◌∷◌, ◌++◌, append_assoc, append-nil, Option, None}
+use Rattle.std.proofs.lemmas.Bool.{eqb-true}
+use Rattle.qasm_lex.specs.Lexemes.{Lexeme, word, whole, real, quoted, arrow, equal, mark}
+use Rattle.qasm_forms.specs.declared.lexemes.Stop.TheVariants.{Semicolon}
+use Rattle.qasm_forms.specs.Statements.{is_mark, ended}
+use Rattle.qasm_forms.specs.Cutting.{is_stop, before_stop, has_stop, after_stop}
+use Rattle.qasm_reader.specs.Parts.{Part, last_part, cut, parts_of}
+use Rattle.qasm_reader.specs.Private.Drafts.{ended_part}
 
-led_last : (l : Lexeme) (ls : List Lexeme) (bad : Option ℕ) → led l (last_part ls bad) bad ≡ last_part (l ∷ ls) bad
-led_last l [] None = refl
-led_last l [] (Some b) = refl
-led_last l (m ∷ ls) None = refl
-led_last l (m ∷ ls) (Some b) = refl
+-- a lexeme that is a semicolon
+pub semicolon_is : (l : Lexeme) → is_mark 59 l ≡ true → l ≡ mark 59
+semicolon_is (word m) e = absurd cc
+semicolon_is (whole m) e = absurd cc
+semicolon_is (real m) e = absurd cc
+semicolon_is (quoted m) e = absurd cc
+semicolon_is arrow e = absurd cc
+semicolon_is equal e = absurd cc
+semicolon_is (mark c) e = ap mark (eqb-true c 59 e)
 
-led_cond : (l : Lexeme) (x : Bool) (ls : List Lexeme) (ps qs : List Part) (bad : Option ℕ)
-    → led l (cond x (record { lexemes = ls; closed = true; bad = None } ∷ ps) qs) bad ≡ cond x (record { lexemes = l ∷ ls; closed = true; bad = None } ∷ ps) (led l qs bad)
-led_cond l true ls ps qs bad = refl
-led_cond l false ls ps qs bad = refl
+abbrev after_first : List Lexeme → List Lexeme → Option ℕ → List Part
+after_first before ls bad =
+    cond (has_stop Semicolon ls) (record { lexemes = before ++ ended (before_stop Semicolon ls); bad = None } ∷ parts_of (after_stop Semicolon ls) bad) (last_part (before ++ ls) bad)
+
+cut_first : (before ls : List Lexeme) (bad : Option ℕ) → cut before ls bad ≡ after_first before ls bad
+unfolding cut
+cut_first before [] bad = ap (λ l. last_part l bad) (sym (append-nil before))
+cut_first before (l ∷ ls) bad = by (is_stop Semicolon l) refl (cut_first (before ++ l ∷ []) ls bad)
+  where
+    by : (x : Bool) → is_stop Semicolon l ≡ x → cut (before ++ l ∷ []) ls bad ≡ after_first (before ++ l ∷ []) ls bad
+        → cond (is_mark 59 l) (record { lexemes = before ++ l ∷ []; bad = None } ∷ parts_of ls bad) (cut (before ++ l ∷ []) ls bad) ≡ after_first before (l ∷ ls) bad
+    by true e more =
+        let s = semicolon_is l e in
+        ap (λ b. cond b (record { lexemes = before ++ l ∷ []; bad = None } ∷ parts_of ls bad) (cut (before ++ l ∷ []) ls bad)) e
+        ∙ ap (λ x. record { lexemes = before ++ x ∷ []; bad = None } ∷ parts_of ls bad) s
+        ∙ sym (ap (λ b. cond (cond b true (has_stop Semicolon ls)) (record { lexemes = before ++ ended (cond b [] (l ∷ before_stop Semicolon ls)); bad = None } ∷ parts_of (cond b ls (after_stop Semicolon ls)) bad) (last_part (before ++ (l ∷ ls)) bad)) e)
+    by false e more =
+        ap (λ b. cond b (record { lexemes = before ++ l ∷ []; bad = None } ∷ parts_of ls bad) (cut (before ++ l ∷ []) ls bad)) e ∙ more
+        ∙ ap (λ x. cond (has_stop Semicolon ls) (record { lexemes = x; bad = None } ∷ parts_of (after_stop Semicolon ls) bad) (last_part ((before ++ l ∷ []) ++ ls) bad)) (append_assoc before (l ∷ []) (ended (before_stop Semicolon ls)))
+        ∙ ap (λ x. cond (has_stop Semicolon ls) (record { lexemes = before ++ ended (l ∷ before_stop Semicolon ls); bad = None } ∷ parts_of (after_stop Semicolon ls) bad) (last_part x bad)) (append_assoc before (l ∷ []) ls)
+        ∙ sym (ap (λ b. cond (cond b true (has_stop Semicolon ls)) (record { lexemes = before ++ ended (cond b [] (l ∷ before_stop Semicolon ls)); bad = None } ∷ parts_of (cond b ls (after_stop Semicolon ls)) bad) (last_part (before ++ (l ∷ ls)) bad)) e)
 
 -- the first statement, and those after it
-pub parts_cut : (ls : List Lexeme) (bad : Option ℕ) → parts_of ls bad
-    ≡ cond (has_stop Semicolon ls) (record { lexemes = before_stop Semicolon ls; closed = true; bad = None } ∷ parts_of (after_stop Semicolon ls) bad) (last_part ls bad)
-unfolding parts_of
-parts_cut [] bad = refl
-parts_cut (l ∷ ls) bad = by (is_stop Semicolon l) refl (parts_cut ls bad)
+pub parts_cut : (ls : List Lexeme) (bad : Option ℕ) → parts_of ls bad ≡ cond (has_stop Semicolon ls) (ended_part (before_stop Semicolon ls) ∷ parts_of (after_stop Semicolon ls) bad) (last_part ls bad)
+parts_cut ls bad = cut_first [] ls bad
+
+-- an end is a separator
+pub ended_stops : (ls : List Lexeme) → has_stop Semicolon (ended ls) ≡ true
+ended_stops [] = refl
+ended_stops (l ∷ ls) = ap (cond (is_stop Semicolon l) true) (ended_stops ls) ∙ by (is_stop Semicolon l)
   where
-    by : (x : Bool) → is_stop Semicolon l ≡ x
-        → parts_of ls bad ≡ cond (has_stop Semicolon ls) (record { lexemes = before_stop Semicolon ls; closed = true; bad = None } ∷ parts_of (after_stop Semicolon ls) bad) (last_part ls bad)
-        → cond (is_mark 59 l) (record { lexemes = []; closed = true; bad = None } ∷ parts_of ls bad) (led l (parts_of ls bad) bad)
-        ≡ cond (cond (is_stop Semicolon l) true (has_stop Semicolon ls)) (record { lexemes = cond (is_stop Semicolon l) [] (l ∷ before_stop Semicolon ls); closed = true; bad = None }
-        ∷ parts_of (cond (is_stop Semicolon l) ls (after_stop Semicolon ls)) bad) (last_part (l ∷ ls) bad)
-    by true e more = rw e refl
-    by false e more =
-        rw e (ap (λ ps. led l ps bad) more ∙ led_cond l (has_stop Semicolon ls) (before_stop Semicolon ls) (parts_of (after_stop Semicolon ls) bad) (last_part ls bad) bad
-        ∙ ap (λ q. cond (has_stop Semicolon ls) (record { lexemes = l ∷ before_stop Semicolon ls; closed = true; bad = None } ∷ parts_of (after_stop Semicolon ls) bad) q) (led_last l ls bad))
+    by : (b : Bool) → cond b true true ≡ true
+    by true = refl
+    by false = refl

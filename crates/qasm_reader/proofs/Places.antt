@@ -2,6 +2,8 @@
 use Rattle.std.proofs.Common.{◌≡◌, ◌∙◌, sym, ap, refl, ◌<◌, ◌⊎◌, inl, inr, ℕ, zero, suc, ◌+◌, Bool, true, false, ◌||◌, List, [], ◌∷◌, ◌++◌, arith}
 use Rattle.std.specs.List.{list_any}
 use Rattle.std.proofs.lemmas.Bool.{cases_eq}
+use Rattle.std.proofs.lemmas.List.Folds.{list_any-append}
+use Rattle.std.proofs.Math.Bool.{or-false}
 use Rattle.qasm_reader.specs.Acts.{up_to}
 
 any_append : (f : ℕ → Bool) (xs : List ℕ) (x : ℕ) → f x ≡ true → list_any f (xs ++ x ∷ []) ≡ true
@@ -43,3 +45,19 @@ none_append f (y ∷ ys) x e h = by (f y) refl (none_append f ys x)
 -- one more that doesn't pass
 pub any_not : (f : ℕ → Bool) (place next : ℕ) → next ≡ place + 1 → list_any f (up_to place) ≡ false → f place ≡ false → list_any f (up_to next) ≡ false
 any_not f place next e h g = let s : next ≡ suc place = omega arith in ap (λ n. list_any f (up_to n)) s ∙ none_append f (up_to place) place h g
+
+or_parts : (a b : Bool) → a || b ≡ true → (a ≡ true) ⊎ (b ≡ true)
+or_parts true b e = inl refl
+or_parts false b e = inr e
+
+-- and where one is there it is below
+pub any_found : (f : ℕ → Bool) (n : ℕ) → list_any f (up_to n) ≡ true → (place : ℕ) × (place < n) × (f place ≡ true)
+any_found f zero e = absurd cc
+any_found f (suc n) e = by (or_parts (list_any f (up_to n)) (f n || false) (sym (list_any-append f (up_to n) (n ∷ [])) ∙ e)) (any_found f n)
+  where
+    last : f n || false ≡ true → f n ≡ true
+    last e = sym (or-false (f n)) ∙ e
+
+    by : (list_any f (up_to n) ≡ true) ⊎ (f n || false ≡ true) → (list_any f (up_to n) ≡ true → (place : ℕ) × (place < n) × (f place ≡ true)) → (place : ℕ) × (place < suc n) × (f place ≡ true)
+    by (inl h) more = let p = more h in (p.0, (let l = p.1 in omega arith), p.2)
+    by (inr h) more = (n, omega arith, last h)

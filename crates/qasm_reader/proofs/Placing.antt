@@ -1,33 +1,27 @@
--- What arguments resolve to, and that those that pass all tests are different qubits of the draft.
-use Rattle.std.proofs.Common.{◌≡◌, ◌≢◌, ◌∙◌, sym, ap, refl, subst, ◌≤◌, ◌<◌, ◌⊎◌, inl, inr, ℕ, ◌+◌, ◌*◌, Bool, true, false, ◌||◌, not, cond, nat_eq, nat_lt, nat_le, List, [], ◌∷◌, length, All, AllPairs, Option, Some, None, Result, Ok, Err, arith}
+-- Arguments that pass all tests are different qubits of the draft.
+use Rattle.std.proofs.Common.{◌≡◌, ◌∙◌, sym, ap, refl, subst, ◌≤◌, ◌<◌, ℕ, ◌+◌, ◌-◌, Bool, true, false, not, cond, nat_eq, nat_le, List, [], ◌∷◌, length, map, replicate, All, Option, Some, None, arith}
 use Rattle.std.specs.List.{list_any, AllByRecursion}
 use Rattle.std.specs.Str.{bytes_eq}
 use Rattle.std.specs.Map.{lookup}
-use Rattle.std.proofs.lemmas.Bool.{leb-false, ltb-false, eqb-true, eqb-false}
+use Rattle.std.proofs.lemmas.Bool.{leb-false}
 use Rattle.std.proofs.lemmas.List.{length-map}
-use Rattle.std.proofs.lemmas.List.Elements.{All-nil, All-cons}
-use Rattle.std.proofs.lemmas.List.Kept.{AllPairs-cons}
+use Rattle.std.proofs.lemmas.List.Elements.{All-nil, All-cons, All-replicate}
 use Rattle.gate_set.specs.declared.kind.Kind.{Kind}
 use Rattle.gate_set.specs.declared.kind.Kind.TheVariants.{Id}
 use Rattle.gate_set.specs.Matrix.{arity_of}
 use Rattle.gate_set.specs.Shape.{IsOn}
-use Rattle.qasm_reader.specs.declared.registers.Register.{Register}
-use Rattle.qasm_reader.specs.declared.registers.Target.{Target}
-use Rattle.qasm_reader.specs.declared.builtin.Builtin.{Builtin}
-use Rattle.qasm_reader.specs.declared.builtin.Builtin.TheVariants.{Gate, Turn}
-use Rattle.qasm_reader.specs.declared.turn.Turned.{Turned}
-use Rattle.qasm_reader.specs.declared.turn.Turned.TheVariants.{Refused, OffGrid as OffTheGrid, Quarters}
-use Rattle.qasm_reader.specs.declared.reason.Why.{Why}
-use Rattle.qasm_reader.specs.declared.reason.Why.TheVariants.{SizesDiffer, RepeatedQubit, Measured, TooManyGates}
-use Rattle.qasm_reader.specs.Statements.{Argument}
-use Rattle.qasm_reader.specs.Acts.{register, or_none, target, targets, size_first, wholes, places, index_or, qubit_at, qubits_at, up_to, is_among}
-use Rattle.qasm_reader.specs.Calls.{table, builtin, arity, turn_kind, turn_times}
-use Rattle.qasm_reader.specs.Fronts.{and_then}
-use Rattle.qasm_reader.specs.Reasons.{same_sort, is_unknown, reaches, is_beyond, differ, has_twice}
-use Rattle.qasm_reader.specs.Scope.{repeats, touches, target_in, resolve, turned_call, counted, outcome_on}
-use Rattle.qasm_reader.specs.Drafts.{Draft, IsDraft, EndsWithin, place_count}
-use Rattle.qasm_reader.proofs.Places.{any_there}
+use Rattle.qasm_lex.specs.Fractions.{Ratio}
+use Rattle.qasm_forms.specs.Statements.{Argument}
+use Rattle.qasm_reader.specs.Acts.{Register, Target, Item, register, index_of, place_in, target_in, target, targets, with_size, wholes, first_or_one, place_count, qubit_at, qubits_at, up_to, placed}
+use Rattle.qasm_reader.specs.Calls.{Named, gate, turn, table, builtin, arity, one, turns, Gives, plain, turned}
+use Rattle.qasm_reader.specs.Reasons.{same_sort, is_unknown, reaches, is_beyond}
+use Rattle.qasm_reader.specs.Private.Scope.{differ, has_twice, repeats}
+use Rattle.qasm_reader.specs.Private.Drafts.{Draft, IsDraft, EndsWithin}
 use Rattle.qasm_reader.proofs.Facts.{neither}
+use Rattle.qasm_reader.proofs.Places.{any_there}
+use Rattle.qasm_reader.proofs.Applied.{placed_all}
+use Rattle.qasm_reader.proofs.Deciding.{different, same_places}
+use Rattle.qasm_reader.proofs.Looking.{with_first_some, length_targets}
 
 some_same : {X : Type 0} (x y : X) → Some x ≡ Some y → x ≡ y
 some_same x y e = cc
@@ -35,68 +29,6 @@ some_same x y e = cc
 not_false : (b : Bool) → not b ≡ false → b ≡ true
 not_false true e = refl
 not_false false e = absurd cc
-
-or_true : (b : Bool) → b || true ≡ true
-or_true true = refl
-or_true false = refl
-
-ok_same : (x y : Kind × ℕ) → ◌≡◌ {A = Result (Kind × ℕ) Why} (Ok x) (Ok y) → x ≡ y
-ok_same x y e = cc
-
-cond_ok : (b : Bool) (why : Why) (r : Result (Kind × ℕ) Why) (p : Kind × ℕ) → cond b (Err why) r ≡ Ok p → (b ≡ false) × (r ≡ Ok p)
-cond_ok true why r p e = absurd cc
-cond_ok false why r p e = (refl, e)
-
-cond_some : {X : Type 0} (b : Bool) (x y : X) → cond b None (Some x) ≡ Some y → (y ≡ x) × (b ≡ false)
-cond_some true x y e = absurd cc
-cond_some false x y e = (sym (some_same x y e), refl)
-
-cond_none : {X : Type 0} (b : Bool) (x : X) → cond b None (Some x) ≡ None → b ≡ true
-cond_none true x e = refl
-cond_none false x e = absurd cc
-
-then_some : {X Y : Type 0} (o : Option X) (f : X → Option Y) (y : Y) → and_then o f ≡ Some y → (x : X) × (o ≡ Some x) × (f x ≡ Some y)
-then_some None f y e = absurd cc
-then_some (Some x) f y e = (x, refl, e)
-
-then_none : {X Y : Type 0} (o : Option X) (f : X → Option Y) → and_then o f ≡ None → (o ≡ None) ⊎ ((x : X) × (f x ≡ None))
-then_none None f e = inl refl
-then_none (Some x) f e = inr (x, e)
-
-module _ (all : List (List ℕ × Register)) where
-  pub target_some : (a : Argument) (t : Target) → target_in all a ≡ Some t → (t ≡ target all a) × (is_beyond (target all a) ≡ false)
-  target_some a t e = cond_some (is_beyond (target all a)) (target all a) t e
-
-  pub target_none : (a : Argument) → target_in all a ≡ None → is_beyond (target all a) ≡ true
-  target_none a e = cond_none (is_beyond (target all a)) (target all a) e
-
-  -- where no index is beyond its register the arguments resolve
-  pub resolve_some : (arguments : List Argument) (ts : List Target) → resolve all arguments ≡ Some ts → (ts ≡ targets all arguments) × (list_any is_beyond (targets all arguments) ≡ false)
-  resolve_some [] ts e = (sym (some_same [] ts e), refl)
-  resolve_some (a ∷ more) ts e =
-      let p = then_some (target_in all a) (λ t. and_then (resolve all more) (λ us. Some (t ∷ us))) ts e in
-      let q = then_some (resolve all more) (λ us. Some (p.0 ∷ us)) ts p.2 in
-      let t = target_some a p.0 p.1 in
-      let r = resolve_some more q.0 q.1 in (
-        sym (some_same (p.0 ∷ q.0) ts q.2) ∙ ap (λ x. x ∷ q.0) t.0 ∙ ap (λ us. target all a ∷ us) r.0,
-        ap (λ b. b || list_any is_beyond (targets all more)) t.1 ∙ r.1,
-      )
-
-  -- and else they don't
-  pub resolve_none : (arguments : List Argument) → resolve all arguments ≡ None → list_any is_beyond (targets all arguments) ≡ true
-  resolve_none [] e = absurd cc
-  resolve_none (a ∷ more) e = by (then_none (target_in all a) (λ t. and_then (resolve all more) (λ us. Some (t ∷ us))) e) (resolve_none more)
-    where
-      rest : (t : Target) → (resolve all more ≡ None) ⊎ ((us : List Target) × (Some (t ∷ us) ≡ None)) → resolve all more ≡ None
-      rest t (inl e) = e
-      rest t (inr p) = absurd (let e = p.1 in cc)
-
-      by : (target_in all a ≡ None) ⊎ ((t : Target) × (and_then (resolve all more) (λ us. Some (t ∷ us)) ≡ None))
-          → (resolve all more ≡ None → list_any is_beyond (targets all more) ≡ true) → list_any is_beyond (targets all (a ∷ more)) ≡ true
-      by (inl e) h = ap (λ b. b || list_any is_beyond (targets all more)) (target_none a e)
-      by (inr p) h =
-          ap (λ b. is_beyond (target all a) || b) (h (rest p.0 (then_none (resolve all more) (λ us. Some (p.0 ∷ us)) p.1)))
-          ∙ or_true (is_beyond (target all a))
 
 -- what holds of each value of a table holds of the one that is found
 found_holds : {K X : Type 0} (P : X → Type 0) (test : K → Bool) (es : List (K × X)) (x : X) → AllByRecursion (λ e. P e.1) es → lookup test es ≡ Some x → P x
@@ -107,74 +39,55 @@ found_holds P test (k ∷ es) x a e = by (test k.0) e (found_holds P test es x a
     by true e more = subst P (some_same k.1 x e) a.0
     by false e more = more e
 
--- a place of a whole register is below its size, and a single place is at any
-IsInside : Option ℕ → ℕ → ℕ → Type 0
-IsInside None size place = place < size
-IsInside (Some i) size place = Unit {0}
+-- a place of a whole register is below its size, and a single one is at any
+IsInside : Option ℕ → ℕ → Type 0
+IsInside None place = Unit {0}
+IsInside (Some size) place = place < size
 
-inside_single : (index : Option ℕ) (size place : ℕ) → place < places (size_first index size []) → IsInside index size place
+inside_single : (size : Option ℕ) (place : ℕ) → place < first_or_one (with_size size []) → IsInside size place
 unfolding IsInside
-inside_single None size place h = h
-inside_single (Some i) size place h = tt
+inside_single None place h = tt
+inside_single (Some n) place h = h
 
-inside_below : (index : Option ℕ) (size place : ℕ) → reaches index size ≡ false → IsInside index size place → index_or index place < size
+qubit_inside : (n : ℕ) (r : Register) (index : Option ℕ) (place : ℕ) → r.first + r.size ≤ n → reaches (Some r) index ≡ false → IsInside (place_in r index).size place → qubit_at place (place_in r index) < n
 unfolding IsInside
-inside_below None size place e h = h
-inside_below (Some i) size place e h = leb-false size i e
-
-register_ends : (n : ℕ) (r : Option Register) → ((x : Register) → r ≡ Some x → x.quantum ≡ true → x.first + x.size ≤ n) → same_sort true r ≡ true → (or_none r).first + (or_none r).size ≤ n
-register_ends n None f e = absurd cc
-register_ends n (Some x) f e = f x refl e
-
-ended_below : (first size n i : ℕ) → first + size ≤ n → i < size → first + i < n
-ended_below first size n i e h = omega arith
+qubit_inside n r None place e b h = omega arith
+qubit_inside n r (Some i) place e b h = let l = leb-false r.size i b in omega arith
 
 module _ (n : ℕ) (all : List (List ℕ × Register)) (ends : AllByRecursion (EndsWithin n) all) where
-  target_below : (a : Argument) (place : ℕ) → is_unknown all true a ≡ false → is_beyond (target all a) ≡ false
-      → IsInside (target all a).index (target all a).register.size place → qubit_at place (target all a) < n
-  target_below a place u e h =
-      ended_below (target all a).register.first (target all a).register.size n (index_or (target all a).index place)
-      (register_ends n (register all a.name) (λ x q. found_holds (λ (r : Register). r.quantum ≡ true → r.first + r.size ≤ n) (bytes_eq a.name) all x ends q) (not_false _ u))
-      (inside_below (target all a).index (target all a).register.size place e h)
-
   -- a qubit of an argument is one of the draft's
-  argument_below : (a : Argument) (t : Target) → is_unknown all true a ≡ false → target_in all a ≡ Some t → (place : ℕ) → place < place_count t → qubit_at place t < n
-  argument_below a t u e place =
-      let s = target_some all a t e in
-      subst (λ (x : Target). place < place_count x → qubit_at place x < n) (sym s.0)
-      (λ (h : place < place_count (target all a)). target_below a place u s.1 (inside_single (target all a).index (target all a).register.size place h))
+  target_below : (a : Argument) (t : Target) (place : ℕ) → is_unknown all true a ≡ false → is_beyond all a ≡ false → target all a ≡ Some t → IsInside t.size place → qubit_at place t < n
+  target_below a t place u b e h = by (register all a.name) refl
+    where
+      by : (x : Option Register) → register all a.name ≡ x → qubit_at place t < n
+      by None q = absurd (let z : None ≡ Some t = sym (ap (λ x. target_in x (index_of a.index)) q) ∙ e in cc)
+      by (Some r) q =
+          let same : place_in r (index_of a.index) ≡ t = some_same (place_in r (index_of a.index)) t (sym (ap (λ x. target_in x (index_of a.index)) q) ∙ e) in
+          let quantum : r.quantum ≡ true = not_false _ (sym (ap (λ x. not (same_sort true x)) q) ∙ u) in
+          let end : r.first + r.size ≤ n = found_holds (λ (r : Register). r.quantum ≡ true → r.first + r.size ≤ n) (bytes_eq a.name) all r ends q quantum in
+          subst (λ x. qubit_at place x < n) same
+          (qubit_inside n r (index_of a.index) place end (sym (ap (λ x. reaches x (index_of a.index)) q) ∙ b) (subst (λ (x : Target). IsInside x.size place) (sym same) h))
 
-pub qubit_below : (n : ℕ) (all : List (List ℕ × Register)) (a : Argument) (t : Target) → AllByRecursion (EndsWithin n) all → is_unknown all true a ≡ false → target_in all a ≡ Some t
-    → (place : ℕ) → place < place_count t → qubit_at place t < n
-qubit_below n all a t ends u e = argument_below n all ends a t u e
+  pub qubit_below : (a : Argument) (t : Target) → is_unknown all true a ≡ false → is_beyond all a ≡ false → target all a ≡ Some t → (place : ℕ) → place < place_count (t ∷ []) → qubit_at place t < n
+  qubit_below a t u b e place h = target_below a t place u b e (inside_single t.size place h)
 
--- each has so many places
-each_same : (n : ℕ) (sizes : List ℕ) → list_any (λ m. not (nat_eq m n)) sizes ≡ false → AllByRecursion (λ m. m ≡ n) sizes
-each_same n [] e = tt
-each_same n (m ∷ sizes) e =
-    let q = neither (not (nat_eq m n)) (list_any (λ k. not (nat_eq k n)) sizes) e in
-    (eqb-true m n (not_false (nat_eq m n) q.0), each_same n sizes q.1)
+  module _ (places place : ℕ) (inside : place < places) where
+    first_inside : (size : Option ℕ) (sizes : List ℕ) → AllByRecursion (λ m. m ≡ places) (with_size size sizes) → IsInside size place × AllByRecursion (λ m. m ≡ places) sizes
+    unfolding IsInside
+    first_inside None sizes a = (tt, a)
+    first_inside (Some m) sizes a = (let e = a.0 in omega arith, a.1)
 
-same_places : (sizes : List ℕ) → differ sizes ≡ false → AllByRecursion (λ m. m ≡ places sizes) sizes
-same_places [] e = tt
-same_places (n ∷ sizes) e = (refl, each_same n sizes e)
-
-first_inside : (n place : ℕ) (index : Option ℕ) (size : ℕ) (sizes : List ℕ) → place < n → AllByRecursion (λ m. m ≡ n) (size_first index size sizes)
-    → IsInside index size place × AllByRecursion (λ m. m ≡ n) sizes
-unfolding IsInside
-first_inside n place None size sizes h a = (let e : size ≡ n = a.0 in omega arith, a.1)
-first_inside n place (Some i) size sizes h a = (tt, a)
-
-module _ (n : ℕ) (all : List (List ℕ × Register)) (ends : AllByRecursion (EndsWithin n) all) (places place : ℕ) (inside : place < places) where
-  -- the qubits at a place of all arguments are the draft's
-  all_below : (arguments : List Argument) → list_any (is_unknown all true) arguments ≡ false → list_any is_beyond (targets all arguments) ≡ false
-      → AllByRecursion (λ m. m ≡ places) (wholes (targets all arguments)) → All (λ q. q < n) (qubits_at (targets all arguments) place)
-  all_below [] u b w = All-nil (λ q. q < n)
-  all_below (a ∷ more) u b w =
-      let p = neither (is_unknown all true a) (list_any (is_unknown all true) more) u in
-      let q = neither (is_beyond (target all a)) (list_any is_beyond (targets all more)) b in
-      let i = first_inside places place (target all a).index (target all a).register.size (wholes (targets all more)) inside w in
-      All-cons (λ q. q < n) (qubit_at place (target all a)) (qubits_at (targets all more) place) (target_below n all ends a place p.0 q.0 i.0) (all_below more p.1 q.1 i.1)
+    -- the qubits at a place of all arguments are the draft's
+    all_below : (arguments : List Argument) (ts : List Target) → list_any (is_unknown all true) arguments ≡ false → list_any (is_beyond all) arguments ≡ false → targets all arguments ≡ Some ts
+        → AllByRecursion (λ m. m ≡ places) (wholes ts) → All (λ q. q < n) (qubits_at ts place)
+    all_below [] ts u b e w = subst (λ x. All (λ q. q < n) (qubits_at x place)) (some_same [] ts e) (All-nil (λ q. q < n))
+    all_below (a ∷ more) ts u b e w =
+        let p = neither (is_unknown all true a) (list_any (is_unknown all true) more) u in
+        let q = neither (is_beyond all a) (list_any (is_beyond all) more) b in
+        let f = with_first_some (target all a) (targets all more) ts e in
+        let i = first_inside (f.0).size (wholes f.1) (subst (λ x. AllByRecursion (λ m. m ≡ places) (wholes x)) (sym f.4) w) in
+        subst (λ x. All (λ q. q < n) (qubits_at x place)) f.4
+        (All-cons (λ q. q < n) (qubit_at place f.0) (qubits_at f.1 place) (target_below a f.0 place p.0 q.0 f.2 i.0) (all_below more f.1 p.1 q.1 f.3 i.1))
 
 -- a test that holds nowhere doesn't hold at a place
 none_there : (f : ℕ → Bool) (place n : ℕ) → place < n → list_any f (up_to n) ≡ false → f place ≡ false
@@ -184,110 +97,69 @@ none_there f place n h e = by (f place) refl
     by true q = absurd (let t : true ≡ false = sym (any_there f place n h q) ∙ e in cc)
     by false q = q
 
-not_among : (q : ℕ) (qs : List ℕ) → is_among qs q ≡ false → All (λ p. q ≢ p) qs
-not_among q [] e = All-nil (λ p. q ≢ p)
-not_among q (p ∷ qs) e =
-    let s = neither (nat_eq q p) (is_among qs q) e in All-cons (λ p. q ≢ p) p qs (eqb-false q p s.0) (not_among q qs s.1)
-
-pairs_none : {X : Type 0} (R : X → X → Type 0) → AllPairs R []
-pairs_none R i j d h k = absurd (omega arith)
-
--- where none is there twice all are different
-different : (qs : List ℕ) → has_twice qs ≡ false → AllPairs (λ p q. p ≢ q) qs
-different [] e = pairs_none (λ p q. p ≢ q)
-different (q ∷ qs) e = let s = neither (is_among qs q) (has_twice qs) e in AllPairs-cons (λ p q. p ≢ q) q qs (not_among q qs s.0) (different qs s.1)
-
 small : (n : ℕ) (qs : List ℕ) → n ≤ 64 → All (λ q. q < n) qs → All (λ q. q < 64) qs
 small n qs h a k d lt = let b = a k d lt in omega arith
 
 -- the two kinds of a turn are on one qubit
-TurnsOne : Builtin → Type 0
-TurnsOne (Gate kind) = Unit {0}
-TurnsOne (Turn forth back) = (arity_of forth ≡ 1) × (arity_of back ≡ 1)
+TurnsOne : Named → Type 0
+TurnsOne (gate kind) = Unit {0}
+TurnsOne (turn forth back) = (arity_of forth ≡ 1) × (arity_of back ≡ 1)
 
 table_turns : AllByRecursion (λ e. TurnsOne e.1) table
 unfolding TurnsOne
 table_turns = (tt, (tt, (tt, (tt, (tt, (tt, (tt, (tt, (tt, ((refl, refl), ((refl, refl), (tt, (tt, (tt, (tt, (tt, tt))))))))))))))))
 
-named_turns : (name : List ℕ) (gate : Builtin) → builtin name ≡ Some gate → TurnsOne gate
+named_turns : (name : List ℕ) (called : Named) → builtin name ≡ Some called → TurnsOne called
 unfolding builtin
-named_turns name gate e = found_holds TurnsOne (bytes_eq name) table gate table_turns e
+named_turns name called e = found_holds TurnsOne (bytes_eq name) table called table_turns e
 
-turn_kind_one : (forth back : Kind) (m : ℕ) → arity_of forth ≡ 1 → arity_of back ≡ 1 → arity_of (turn_kind forth back m) ≡ 1
-turn_kind_one forth back m f b = by (nat_eq m 0) (nat_le m 4)
-  where
-    by : (none few : Bool) → arity_of (cond none Id (cond few forth back)) ≡ 1
-    by true few = refl
-    by false true = f
-    by false false = b
-
--- what a call does at each place is on as many qubits as it has arguments
-turned_arity : (gate : Builtin) (t : Turned) (p : Kind × ℕ) → TurnsOne gate → turned_call gate t ≡ Ok p → arity gate ≡ arity_of p.0
+pub turn_arities : (name : List ℕ) (forth back : Kind) → builtin name ≡ Some (turn forth back) → (arity_of forth ≡ 1) × (arity_of back ≡ 1)
 unfolding TurnsOne
-turned_arity (Gate kind) t p o e = ap (λ (x : Kind × ℕ). arity_of x.0) (ok_same (kind, 1) p e)
-turned_arity (Turn forth back) (Refused r) p o e = absurd cc
-turned_arity (Turn forth back) OffTheGrid p o e = absurd cc
-turned_arity (Turn forth back) (Quarters m) p o e =
-    sym (turn_kind_one forth back m o.0 o.1) ∙ ap (λ (x : Kind × ℕ). arity_of x.0) (ok_same (turn_kind forth back m, turn_times m) p e)
+turn_arities name forth back e = named_turns name (turn forth back) e
 
--- what passes the tests of a call
-record Passes (gate : Builtin) (t : Turned) (ts : List Target) (gates : ℕ) (p : Kind × ℕ) : Type 0 where
-  pub alike : differ (wholes ts) ≡ false
-  pub once : repeats ts ≡ false
-  pub does : turned_call gate t ≡ Ok p
-  pub few : gates + p.1 * places (wholes ts) ≤ 1000000
+-- what a call does at each place is gates of one kind, on as many qubits as the call has arguments
+record Body (called : Named) (items : List Item) : Type 0 where
+  kind : Kind
+  times : ℕ
+  are : items ≡ replicate times (one kind)
+  on : arity_of kind ≡ arity called
 
-counted_ok : (flags : List Bool) (ts : List Target) (gates : ℕ) (r : Result (Kind × ℕ) Why) (p : Kind × ℕ) → counted flags ts gates r ≡ Ok p
-    → (r ≡ Ok p) × (gates + p.1 * places (wholes ts) ≤ 1000000)
-counted_ok flags ts gates (Err why) p e = absurd cc
-counted_ok flags ts gates (Ok x) p e =
-    let q = cond_ok (touches flags ts) Measured (cond (nat_lt 1000000 (gates + x.1 * places (wholes ts))) (Err TooManyGates) (Ok x)) p e in
-    let r = cond_ok (nat_lt 1000000 (gates + x.1 * places (wholes ts))) TooManyGates (Ok x) p q.1 in
-    (r.1, subst (λ (y : Kind × ℕ). gates + y.1 * places (wholes ts) ≤ 1000000) (ok_same x p r.1) (ltb-false 1000000 _ r.0))
+turns_body : (forth back : Kind) (m : ℕ) → arity_of forth ≡ 1 → arity_of back ≡ 1 → Body (turn forth back) (turns forth back m)
+turns_body forth back m f b = by (nat_eq m 0) refl (nat_le m 4) refl
+  where
+    by : (x : Bool) → nat_eq m 0 ≡ x → (y : Bool) → nat_le m 4 ≡ y → Body (turn forth back) (turns forth back m)
+    by true e y g = record { kind = Id; times = 1; are = ap (λ z. cond z (one Id ∷ []) (cond (nat_le m 4) (replicate m (one forth)) (replicate (8 - m) (one back)))) e; on = refl }
+    by false e true g = record { kind = forth; times = m; are = ap (λ z. cond z (one Id ∷ []) (cond (nat_le m 4) (replicate m (one forth)) (replicate (8 - m) (one back)))) e ∙ ap (λ z. cond z (replicate m (one forth)) (replicate (8 - m) (one back))) g; on = f }
+    by false e false g = record { kind = back; times = 8 - m; are = ap (λ z. cond z (one Id ∷ []) (cond (nat_le m 4) (replicate m (one forth)) (replicate (8 - m) (one back)))) e ∙ ap (λ z. cond z (replicate m (one forth)) (replicate (8 - m) (one back))) g; on = b }
 
-passes : (gate : Builtin) (t : Turned) (ts : List Target) (flags : List Bool) (gates : ℕ) (p : Kind × ℕ) → outcome_on gate t ts flags gates ≡ Ok p → Passes gate t ts gates p
-passes gate t ts flags gates p e =
-    let q = cond_ok (differ (wholes ts)) SizesDiffer (cond (repeats ts) (Err RepeatedQubit) (counted flags ts gates (turned_call gate t))) p e in
-    let r = cond_ok (repeats ts) RepeatedQubit (counted flags ts gates (turned_call gate t)) p q.1 in
-    let c = counted_ok flags ts gates (turned_call gate t) p r.1 in
-    record { alike = q.0; once = r.0; does = c.0; few = c.1 }
-
--- a call that passes stays within the most gates
-pub call_few : (gate : Builtin) (t : Turned) (ts : List Target) (flags : List Bool) (gates : ℕ) (p : Kind × ℕ) → outcome_on gate t ts flags gates ≡ Ok p
-    → gates + p.1 * places (wholes ts) ≤ 1000000
-call_few gate t ts flags gates p e = (passes gate t ts flags gates p e).few
-
--- and does at each place what its gate does
-pub call_times : (gate : Builtin) (t : Turned) (ts : List Target) (flags : List Bool) (gates : ℕ) (p : Kind × ℕ) → outcome_on gate t ts flags gates ≡ Ok p → turned_call gate t ≡ Ok p
-call_times gate t ts flags gates p e = (passes gate t ts flags gates p e).does
+gives_body : (called : Named) (values : List Ratio) (items : List Item) → TurnsOne called → Gives called values items → Body called items
+unfolding TurnsOne
+gives_body called values items o (plain kind n v i) = subst (λ c. Body c items) (sym n) (record { kind = kind; times = 1; are = i; on = refl })
+gives_body called values items o (turned forth back f m n v q i) =
+    let p = subst TurnsOne n o in subst (λ c. Body c items) (sym n) (subst (Body (turn forth back)) (sym i) (turns_body forth back m p.0 p.1))
 
 -- the qubits of a gate whose arguments pass
-placed_on : (n : ℕ) (all : List (List ℕ × Register)) → n ≤ 64 → AllByRecursion (EndsWithin n) all → (arguments : List Argument) (kind : Kind) (place : ℕ)
-    → list_any (is_unknown all true) arguments ≡ false → list_any is_beyond (targets all arguments) ≡ false → length arguments ≡ arity_of kind
-    → differ (wholes (targets all arguments)) ≡ false → repeats (targets all arguments) ≡ false → place < places (wholes (targets all arguments))
-    → IsOn n (record { kind = kind; on = qubits_at (targets all arguments) place })
-placed_on n all few ends arguments kind place u b c d r h =
-    let ts = targets all arguments in
-    let below = all_below n all ends (places (wholes ts)) place h arguments u b (same_places (wholes ts) d) in
+pub placed_on : (n : ℕ) (all : List (List ℕ × Register)) → n ≤ 64 → AllByRecursion (EndsWithin n) all → (arguments : List Argument) (ts : List Target) (kind : Kind) (place : ℕ)
+    → list_any (is_unknown all true) arguments ≡ false → list_any (is_beyond all) arguments ≡ false → targets all arguments ≡ Some ts → length arguments ≡ arity_of kind
+    → differ (wholes ts) ≡ false → repeats ts ≡ false → place < place_count ts → IsOn n (record { kind = kind; on = qubits_at ts place })
+placed_on n all few ends arguments ts kind place u b e c d r h =
+    let below = all_below n all ends (place_count ts) place h arguments ts u b e (same_places (wholes ts) d) in
     record {
       placed = record {
-        count = length-map ts (qubit_at place) ∙ length-map arguments (target all) ∙ c;
+        count = length-map ts (qubit_at place) ∙ length_targets all arguments ts e ∙ c;
         small = small n (qubits_at ts place) few below;
-        different = different (qubits_at ts place) (none_there (λ place. has_twice (qubits_at ts place)) place (places (wholes ts)) h r);
+        different = different (qubits_at ts place) (none_there (λ place. has_twice (qubits_at ts place)) place (place_count ts) h r);
       };
       below = below;
     }
 
 -- the gates of a call that passes all tests are on qubits of the draft
-pub call_on_qubits : (d : Draft) → IsDraft d → (name : List ℕ) (gate : Builtin) (t : Turned) (arguments : List Argument) (ts : List Target) (gates : ℕ) (p : Kind × ℕ)
-    → builtin name ≡ Some gate → list_any (is_unknown d.registers true) arguments ≡ false → resolve d.registers arguments ≡ Some ts → length arguments ≡ arity gate
-    → outcome_on gate t ts d.measured gates ≡ Ok p → (place : ℕ) → place < places (wholes ts) → IsOn d.qubits (record { kind = p.0; on = qubits_at ts place })
-call_on_qubits d i name gate t arguments ts gates p n u r c e place =
-    let s = resolve_some d.registers arguments ts r in
-    let o = passes gate t ts d.measured gates p e in
-    let k = c ∙ turned_arity gate t p (named_turns name gate n) o.does in
-    subst
-    (λ (x : List Target). differ (wholes x) ≡ false → repeats x ≡ false → place < places (wholes x) → IsOn d.qubits (record { kind = p.0; on = qubits_at x place }))
-    (sym s.0)
-    (placed_on d.qubits d.registers i.few_qubits i.registers_end arguments p.0 place u s.1 k)
-    o.alike o.once
+pub call_on_qubits : (d : Draft) → IsDraft d → (name : List ℕ) (called : Named) (arguments : List Argument) (ts : List Target) (values : List Ratio) (items : List Item)
+    → builtin name ≡ Some called → list_any (is_unknown d.registers true) arguments ≡ false → list_any (is_beyond d.registers) arguments ≡ false → targets d.registers arguments ≡ Some ts
+    → length arguments ≡ arity called → Gives called values items → differ (wholes ts) ≡ false → repeats ts ≡ false
+    → (place : ℕ) → place < place_count ts → All (IsOn d.qubits) (map (placed (qubits_at ts place)) items)
+call_on_qubits d i name called arguments ts values items n u b e c g s r place h =
+    let body = gives_body called values items (named_turns name called n) g in
+    let k = c ∙ sym body.on in
+    subst (All (IsOn d.qubits)) (sym (ap (map (placed (qubits_at ts place))) body.are ∙ placed_all body.kind body.times (qubits_at ts place) (length-map ts (qubit_at place) ∙ length_targets d.registers arguments ts e ∙ k)))
+    (All-replicate (IsOn d.qubits) body.times _ (placed_on d.qubits d.registers i.few_qubits i.registers_end arguments ts body.kind place u b e k s r h))

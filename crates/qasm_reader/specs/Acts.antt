@@ -1,5 +1,5 @@
--- What statements do, each given what was done before it: registers, qubits, gates, measured qubits.
-use Rattle.std.specs.Prelude.{ℕ, zero, suc, ◌+◌, Bool, true, false, nat_eq, List, [], ◌∷◌, ◌++◌, map, flat_map, replicate, Option, Some, None}
+-- What statements do, one after the other: registers, qubits, gates, measured qubits.
+use Rattle.std.specs.Prelude.{ℕ, zero, suc, ◌+◌, Bool, true, false, nat_eq, List, [], ◌∷◌, ◌++◌, map, flat_map, get_or, Option, Some, None}
 use Rattle.std.specs.List.{list_any}
 use Rattle.std.specs.Str.{bytes_eq}
 use Rattle.std.specs.Map.{lookup}
@@ -7,18 +7,31 @@ use Rattle.gate_set.specs.declared.kind.Kind.{Kind}
 use Rattle.gate_set.specs.declared.gate.Gate.{Gate}
 use Rattle.gate_set.specs.Circuits.{Circuit}
 use Rattle.qasm_lex.specs.Symbols.{decimal}
-use Rattle.qasm_reader.specs.declared.registers.Register.{Register}
-use Rattle.qasm_reader.specs.declared.registers.Target.{Target}
-use Rattle.qasm_reader.specs.Statements.{Argument}
+use Rattle.qasm_forms.specs.Statements.{Argument}
+
+-- a declared register: whether it holds qubits, the number of its first qubit, and how many places it has
+pub record Register : Type 0 where
+  pub quantum : Bool
+  pub first : ℕ
+  pub size : ℕ
+
+-- what an argument means: one qubit, or so many from the first on
+pub record Target : Type 0 where
+  pub first : ℕ
+  pub size : Option ℕ
+
+-- a gate of what a call does: its kind, and the numbers of the arguments that it is done on, counted from 0
+pub record Item : Type 0 where
+  pub kind : Kind
+  pub on : List ℕ
 
 pub data Act : Type 0 where
   nothing : Act
   -- a register of qubits, or of bits, with its name and its size
   declares : Bool → List ℕ → ℕ → Act
-  -- the qubits of the argument
-  measures : Argument → Act
-  -- gates of the kind, so many of them, at each place of the arguments in turn
-  applies : Kind → ℕ → List Argument → Act
+  measures : Target → Act
+  -- these gates on the arguments, at each place of them in turn
+  applies : List Item → List Target → Act
 
 abbrev pub qubits_in : Act → ℕ
 qubits_in (declares true name size) = size
@@ -28,63 +41,75 @@ abbrev pub qubit_count : List Act → ℕ
 qubit_count [] = 0
 qubit_count (a ∷ acts) = qubits_in a + qubit_count acts
 
--- what acts add one after the other, each given the acts before it
-abbrev pub along : {X : Type 0} → (List Act → Act → List X) → List Act → List Act → List X
-along adds before [] = []
-along adds before (a ∷ acts) = adds before a ++ along adds (before ++ a ∷ []) acts
-
 -- a register of qubits has the numbers that follow those of all before it
 abbrev pub registers_in : List Act → Act → List (List ℕ × Register)
 registers_in before (declares true name size) = (name, record { quantum = true; first = qubit_count before; size = size }) ∷ []
 registers_in before (declares false name size) = (name, record { quantum = false; first = 0; size = size }) ∷ []
 registers_in before _ = []
 
+-- the registers that acts declare, after those before
+abbrev pub registers_from : List Act → List Act → List (List ℕ × Register)
+registers_from before [] = []
+registers_from before (a ∷ acts) = registers_in before a ++ registers_from (before ++ a ∷ []) acts
+
 abbrev pub registers : List Act → List (List ℕ × Register)
-registers acts = along registers_in [] acts
+registers acts = registers_from [] acts
 
 -- the register of a name
 abbrev pub register : List (List ℕ × Register) → List ℕ → Option Register
 register all name = lookup (bytes_eq name) all
 
-abbrev pub no_register : Register
-no_register = record { quantum = false; first = 0; size = 0 }
-
-abbrev pub or_none : Option Register → Register
-or_none (Some r) = r
-or_none None = no_register
-
 abbrev pub index_of : Option (List ℕ) → Option ℕ
 index_of None = None
 index_of (Some digits) = Some (decimal digits)
 
--- the register that an argument names, and its index
-abbrev pub target : List (List ℕ × Register) → Argument → Target
-target all a = record { register = or_none (register all a.name); index = index_of a.index }
+-- the place of an index in a register, or all its places
+abbrev pub place_in : Register → Option ℕ → Target
+place_in r None = record { first = r.first; size = Some r.size }
+place_in r (Some i) = record { first = r.first + i; size = None }
 
-abbrev pub targets : List (List ℕ × Register) → List Argument → List Target
-targets all arguments = map (target all) arguments
+abbrev pub target_in : Option Register → Option ℕ → Option Target
+target_in None index = None
+target_in (Some r) index = Some (place_in r index)
 
-abbrev pub size_first : Option ℕ → ℕ → List ℕ → List ℕ
-size_first None size sizes = size ∷ sizes
-size_first (Some i) size sizes = sizes
+-- what an argument means, where its register is declared
+abbrev pub target : List (List ℕ × Register) → Argument → Option Target
+target all a = target_in (register all a.name) (index_of a.index)
 
--- the sizes of those arguments that are whole registers
+abbrev pub with_first : Option Target → Option (List Target) → Option (List Target)
+with_first None ts = None
+with_first (Some t) None = None
+with_first (Some t) (Some ts) = Some (t ∷ ts)
+
+-- what arguments mean, where all their registers are declared
+abbrev pub targets : List (List ℕ × Register) → List Argument → Option (List Target)
+targets all [] = Some []
+targets all (a ∷ more) = with_first (target all a) (targets all more)
+
+abbrev pub with_size : Option ℕ → List ℕ → List ℕ
+with_size None sizes = sizes
+with_size (Some n) sizes = n ∷ sizes
+
+-- the sizes of those that are whole registers
 abbrev pub wholes : List Target → List ℕ
 wholes [] = []
-wholes (t ∷ ts) = size_first t.index t.register.size (wholes ts)
+wholes (t ∷ ts) = with_size t.size (wholes ts)
 
--- how many places the arguments have together: those of the whole registers, else one
-abbrev pub places : List ℕ → ℕ
-places [] = 1
-places (n ∷ ns) = n
+abbrev pub first_or_one : List ℕ → ℕ
+first_or_one [] = 1
+first_or_one (n ∷ ns) = n
 
-abbrev pub index_or : Option ℕ → ℕ → ℕ
-index_or None place = place
-index_or (Some i) place = i
+-- how many places the arguments of a call have together: those of the whole registers, else one
+abbrev pub place_count : List Target → ℕ
+place_count ts = first_or_one (wholes ts)
 
--- the qubit of an argument at a place: a single place is the same at each
+abbrev pub qubit_from : ℕ → Option ℕ → ℕ → ℕ
+qubit_from first None place = first
+qubit_from first (Some n) place = first + place
+
+-- the qubit of an argument at a place: a single one is the same at each
 abbrev pub qubit_at : ℕ → Target → ℕ
-qubit_at place t = t.register.first + index_or t.index place
+qubit_at place t = qubit_from t.first t.size place
 
 abbrev pub qubits_at : List Target → ℕ → List ℕ
 qubits_at ts place = map (qubit_at place) ts
@@ -94,27 +119,31 @@ abbrev pub up_to : ℕ → List ℕ
 up_to zero = []
 up_to (suc n) = up_to n ++ n ∷ []
 
--- the product over the places
-abbrev pub product : Kind → ℕ → List Target → List Gate
-product kind times ts = flat_map (λ place. replicate times (record { kind = kind; on = qubits_at ts place })) (up_to (places (wholes ts)))
+-- a gate on those of the qubits that it names by their numbers
+abbrev pub placed : List ℕ → Item → Gate
+placed qubits i = record { kind = i.kind; on = map (λ n. get_or qubits n 0) i.on }
 
-abbrev pub gates_in : List Act → Act → List Gate
-gates_in before (applies kind times arguments) = product kind times (targets (registers before) arguments)
-gates_in before _ = []
+-- all of them at each place in turn
+abbrev pub product : List Item → List Target → List Gate
+product items ts = flat_map (λ place. map (placed (qubits_at ts place)) items) (up_to (place_count ts))
+
+abbrev pub gates_in : Act → List Gate
+gates_in (applies items ts) = product items ts
+gates_in _ = []
 
 abbrev pub gates : List Act → List Gate
-gates acts = along gates_in [] acts
+gates acts = flat_map gates_in acts
 
 -- the qubits of an argument, place by place
 abbrev pub qubits_of : Target → List ℕ
-qubits_of t = map (λ place. qubit_at place t) (up_to (places (wholes (t ∷ []))))
+qubits_of t = map (λ place. qubit_at place t) (up_to (place_count (t ∷ [])))
 
-abbrev pub measured_in : List Act → Act → List ℕ
-measured_in before (measures a) = qubits_of (target (registers before) a)
-measured_in before _ = []
+abbrev pub measured_in : Act → List ℕ
+measured_in (measures t) = qubits_of t
+measured_in _ = []
 
 abbrev pub measured : List Act → List ℕ
-measured acts = along measured_in [] acts
+measured acts = flat_map measured_in acts
 
 abbrev pub is_among : List ℕ → ℕ → Bool
 is_among qubits q = list_any (nat_eq q) qubits

@@ -1,66 +1,89 @@
 -- The gates that have names, and what their calls do.
-use Rattle.std.specs.Prelude.{◌≡◌, ℕ, ◌-◌, true, false, cond, nat_eq, nat_le, List, [], ◌∷◌, Option, Some, Ok, Err, codes}
+use Rattle.std.specs.Prelude.{◌≡◌, ℕ, ◌-◌, true, false, cond, nat_eq, nat_le, List, [], ◌∷◌, replicate, Option, Some, None, Ok, codes}
 use Rattle.std.specs.Str.{bytes_eq}
 use Rattle.std.specs.Map.{lookup}
 use Rattle.gate_set.specs.declared.kind.Kind.{Kind}
 use Rattle.gate_set.specs.declared.kind.Kind.TheVariants.{Id, X, Y, Z, H, S, Sdg, T, Tdg, RxP, RxM, RyP, RyM, Cx, Cz, Swap, Ccx, Cswap}
 use Rattle.gate_set.specs.Matrix.{arity_of}
-use Rattle.qasm_lex.specs.Symbols.{decimal}
+use Rattle.qasm_lex.specs.Lexemes.{Lexeme}
+use Rattle.qasm_lex.specs.Symbols.{decimal, symbols}
 use Rattle.qasm_lex.specs.Fractions.{Ratio}
 use Rattle.qasm_lex.specs.Angles.{IsAnswer}
 use Rattle.qasm_lex.specs.Quarters.{IsQuarters}
-use Rattle.qasm_reader.specs.declared.builtin.Builtin.{Builtin}
-use Rattle.qasm_reader.specs.declared.builtin.Builtin.TheVariants.{Gate, Turn}
-use Rattle.qasm_reader.specs.declared.turn.Turned.{Turned}
-use Rattle.qasm_reader.specs.declared.turn.Turned.TheVariants.{Refused, OffGrid, Quarters}
-use Rattle.qasm_reader.specs.Lexemes.{Lexeme, symbols}
-use Rattle.qasm_reader.specs.Statements.{Statement, qubits, bits, measure, call, Argument}
-use Rattle.qasm_reader.specs.Acts.{Act, nothing, declares, measures, applies}
+use Rattle.qasm_forms.specs.Statements.{Statement, qubits, bits, measure, call, Argument}
+use Rattle.qasm_reader.specs.Acts.{Act, nothing, declares, measures, applies, Item, Target, registers, target, targets, up_to}
+
+-- what a gate's name stands for: one gate, or quarter turns about an axis, forth and back
+pub data Named : Type 0 where
+  gate : Kind → Named
+  turn : Kind → Kind → Named
 
 -- OpenQASM 2.0's standard gates that are exact here, by name
-abbrev pub table : List (List ℕ × Builtin)
+abbrev pub table : List (List ℕ × Named)
 table =
-    (codes "id", Gate Id) ∷ (codes "x", Gate X) ∷ (codes "y", Gate Y) ∷ (codes "z", Gate Z) ∷ (codes "h", Gate H)
-    ∷ (codes "s", Gate S) ∷ (codes "sdg", Gate Sdg) ∷ (codes "t", Gate T) ∷ (codes "tdg", Gate Tdg)
-    ∷ (codes "rx", Turn RxP RxM) ∷ (codes "ry", Turn RyP RyM)
-    ∷ (codes "cx", Gate Cx) ∷ (codes "cz", Gate Cz) ∷ (codes "swap", Gate Swap) ∷ (codes "ccx", Gate Ccx) ∷ (codes "cswap", Gate Cswap) ∷ []
+    (codes "id", gate Id) ∷ (codes "x", gate X) ∷ (codes "y", gate Y) ∷ (codes "z", gate Z) ∷ (codes "h", gate H)
+    ∷ (codes "s", gate S) ∷ (codes "sdg", gate Sdg) ∷ (codes "t", gate T) ∷ (codes "tdg", gate Tdg)
+    ∷ (codes "rx", turn RxP RxM) ∷ (codes "ry", turn RyP RyM)
+    ∷ (codes "cx", gate Cx) ∷ (codes "cz", gate Cz) ∷ (codes "swap", gate Swap) ∷ (codes "ccx", gate Ccx) ∷ (codes "cswap", gate Cswap) ∷ []
 
-unfoldable pub builtin : List ℕ → Option Builtin
+-- the gate of a name that is built in
+unfoldable pub builtin : List ℕ → Option Named
 builtin name = lookup (bytes_eq name) table
 
+-- the gate of a name, given what was done before
+abbrev pub gate_named : List Act → List ℕ → Option Named
+gate_named before name = builtin name
+
 -- how many arguments it has
-abbrev pub arity : Builtin → ℕ
-arity (Gate kind) = arity_of kind
-arity (Turn forth back) = 1
+abbrev pub arity : Named → ℕ
+arity (gate kind) = arity_of kind
+arity (turn forth back) = 1
 
 -- how many angles it has
-abbrev pub angle_count : Builtin → ℕ
-angle_count (Gate kind) = 0
-angle_count (Turn forth back) = 1
+abbrev pub angle_count : Named → ℕ
+angle_count (gate kind) = 0
+angle_count (turn forth back) = 1
 
--- the lexemes of an angle are a number of quarter turns below two full turns, another exact angle, or refused
-abbrev pub IsTurned : List Lexeme → Turned → Type 0
-IsTurned angle (Refused e) = IsAnswer (symbols angle) (Err e)
-IsTurned angle OffGrid = (f : Ratio) × IsAnswer (symbols angle) (Ok f) × ((m : ℕ) → IsQuarters f m → ⊥)
-IsTurned angle (Quarters m) = (f : Ratio) × IsAnswer (symbols angle) (Ok f) × IsQuarters f m
+-- one gate of the kind on all its arguments
+abbrev pub one : Kind → Item
+one kind = record { kind = kind; on = up_to (arity_of kind) }
 
--- up to a full turn it is done by quarter turns forth, and beyond that back; none at all is one identity
-abbrev pub turn_kind : Kind → Kind → ℕ → Kind
-turn_kind forth back m = cond (nat_eq m 0) Id (cond (nat_le m 4) forth back)
+-- m quarter turns, m below 8: up to a full turn they are done forth, and beyond that back; none at all is one identity
+abbrev pub turns : Kind → Kind → ℕ → List Item
+turns forth back m = cond (nat_eq m 0) (one Id ∷ []) (cond (nat_le m 4) (replicate m (one forth)) (replicate (8 - m) (one back)))
 
-abbrev pub turn_times : ℕ → ℕ
-turn_times m = cond (nat_eq m 0) 1 (cond (nat_le m 4) m (8 - m))
+-- what a gate does, by the values of its angles as multiples of π. An angle for which it does nothing isn't on its grid
+pub data Gives (named : Named) (values : List Ratio) (items : List Item) : Type 0 where
+  plain : (kind : Kind) → named ≡ gate kind → values ≡ [] → items ≡ one kind ∷ [] → Gives named values items
+  turned : (forth back : Kind) (f : Ratio) (m : ℕ) → named ≡ turn forth back → values ≡ f ∷ [] → IsQuarters f m → items ≡ turns forth back m → Gives named values items
+
+-- angles have these values
+abbrev pub AreValues : List (List Lexeme) → List Ratio → Type 0
+AreValues [] [] = Unit {0}
+AreValues [] (f ∷ values) = ⊥
+AreValues (a ∷ angles) [] = ⊥
+AreValues (a ∷ angles) (f ∷ values) = IsAnswer (symbols a) (Ok f) × AreValues angles values
+
+abbrev pub listed : Option (List (List Lexeme)) → List (List Lexeme)
+listed None = []
+listed (Some angles) = angles
 
 -- what a call of a gate does
-pub data Calls (name : List ℕ) (angles : Option (List (List Lexeme))) (arguments : List Argument) (act : Act) : Type 0 where
-  plain : (kind : Kind) → builtin name ≡ Some (Gate kind) → act ≡ applies kind 1 arguments → Calls name angles arguments act
-  turned : (forth back : Kind) (angle : List Lexeme) (m : ℕ) → builtin name ≡ Some (Turn forth back) → angles ≡ Some (angle ∷ []) → IsTurned angle (Quarters m)
-      → act ≡ applies (turn_kind forth back m) (turn_times m) arguments → Calls name angles arguments act
+pub record Calls (before : List Act) (name : List ℕ) (angles : List (List Lexeme)) (arguments : List Argument) (act : Act) : Type 0 where
+  pub called : Named
+  pub values : List Ratio
+  pub items : List Item
+  pub on : List Target
+  pub named : gate_named before name ≡ Some called
+  pub valued : AreValues angles values
+  pub gives : Gives called values items
+  pub means : targets (registers before) arguments ≡ Some on
+  pub does : act ≡ applies items on
 
--- what a statement does
-abbrev pub Does : Statement → Act → Type 0
-Does (qubits name size) act = act ≡ declares true name (decimal size)
-Does (bits name size) act = act ≡ declares false name (decimal size)
-Does (measure from to) act = act ≡ measures from
-Does (call name angles arguments) act = Calls name angles arguments act
-Does _ act = act ≡ nothing
+-- what a statement does, given what was done before it
+abbrev pub Does : List Act → Statement → Act → Type 0
+Does before (qubits name size) act = act ≡ declares true name (decimal size)
+Does before (bits name size) act = act ≡ declares false name (decimal size)
+Does before (measure from to) act = (t : Target) × (target (registers before) from ≡ Some t) × (act ≡ measures t)
+Does before (call name angles arguments) act = Calls before name (listed angles) arguments act
+Does before _ act = act ≡ nothing

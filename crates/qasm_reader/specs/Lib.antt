@@ -1,12 +1,7 @@
-pub mod Lexemes
-pub mod Statements
-pub mod Parts
 pub mod Acts
+pub mod Profile
+pub mod Parts
 pub mod Calls
 pub mod Reasons
 pub mod Reading
-pub mod Fronts
-pub mod Parsing
-pub mod Scope
-pub mod Tests
-pub mod Drafts
+pub mod Private

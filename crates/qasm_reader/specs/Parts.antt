@@ -1,33 +1,35 @@
 -- The statements of a text as lists of lexemes.
-use Rattle.std.specs.Prelude.{◌≡◌, ℕ, Bool, true, false, cond, List, [], ◌∷◌, Option, None}
-use Rattle.qasm_reader.specs.Lexemes.{Lexeme, is_mark}
-use Rattle.qasm_reader.specs.Statements.{Statement, version, written, Formed}
+use Rattle.std.specs.Prelude.{◌≡◌, ℕ, Bool, cond, List, [], ◌∷◌, ◌++◌, Option, None}
+use Rattle.qasm_lex.specs.Characters.{semicolon}
+use Rattle.qasm_lex.specs.Lexemes.{Lexeme}
+use Rattle.qasm_forms.specs.Statements.{is_mark, Statement, version, written, IsStatement}
 use Rattle.qasm_reader.specs.Acts.{Act}
+use Rattle.qasm_reader.specs.Profile.{leaves}
 
--- a statement as it stands in a text: its lexemes, whether a `;` closes it, and the bad place that belongs to it
+-- a statement as it stands in a text: its lexemes with its end, or those after the last end with the bad place of the text
 pub record Part : Type 0 where
   pub lexemes : List Lexeme
-  pub closed : Bool
   pub bad : Option ℕ
 
--- the lexemes after the last `;` and the bad place are a statement that isn't closed
+-- the lexeme ends the statement whose lexemes so far stand before it
+abbrev pub is_end : List Lexeme → Lexeme → Bool
+is_end before l = is_mark semicolon l
+
 abbrev pub last_part : List Lexeme → Option ℕ → List Part
 last_part [] None = []
-last_part lexemes bad = record { lexemes = lexemes; closed = false; bad = bad } ∷ []
+last_part lexemes bad = record { lexemes = lexemes; bad = bad } ∷ []
 
--- one more lexeme at the front of the first part
-abbrev pub led : Lexeme → List Part → Option ℕ → List Part
-led l [] bad = record { lexemes = l ∷ []; closed = false; bad = bad } ∷ []
-led l (p ∷ ps) bad = record { lexemes = l ∷ p.lexemes; closed = p.closed; bad = p.bad } ∷ ps
+-- the statements of lexemes, the first of which begins with those before
+unfoldable pub cut : List Lexeme → List Lexeme → Option ℕ → List Part
+cut before [] bad = last_part before bad
+cut before (l ∷ ls) bad = cond (is_end before l) (record { lexemes = before ++ l ∷ []; bad = None } ∷ cut [] ls bad) (cut (before ++ l ∷ []) ls bad)
 
--- a statement is the lexemes up to a `;`. Those of a text, with its bad place
-unfoldable pub parts_of : List Lexeme → Option ℕ → List Part
-parts_of [] bad = last_part [] bad
-parts_of (l ∷ ls) bad = cond (is_mark 59 l) (record { lexemes = []; closed = true; bad = None } ∷ parts_of ls bad) (led l (parts_of ls bad) bad)
+-- the statements of a text, by its lexemes and its bad place
+abbrev pub parts_of : List Lexeme → Option ℕ → List Part
+parts_of lexemes bad = cut [] lexemes bad
 
--- the part is closed and has this form; the version stands first
+-- the part has this form; the version stands first
 pub record Has (before : List Act) (part : Part) (s : Statement) : Type 0 where
-  pub closed : part.closed ≡ true
   pub spelled : part.lexemes ≡ written s
-  pub formed : Formed s
+  pub statement : IsStatement (leaves before) s
   pub first : s ≡ version → before ≡ []

@@ -2,14 +2,13 @@
 use Rattle.std.specs.Prelude.{◌≡◌, ℕ, ◌+◌, List, [], ◌∷◌, ◌++◌, length, Option, Result, Ok, Err}
 use Rattle.gate_set.specs.Circuits.{Circuit}
 use Rattle.qasm_lex.specs.declared.token.Token.{Token}
-use Rattle.qasm_lex.specs.Lexemes.{AreTokens}
+use Rattle.qasm_lex.specs.Lexemes.{AreTokens, lexemes_of}
 use Rattle.qasm_reader.specs.declared.reason.Why.{Why}
 use Rattle.qasm_reader.specs.declared.reason.Why.TheVariants.{NoVersion}
 use Rattle.qasm_reader.specs.declared.reason.Refusal.{Refusal}
 use Rattle.qasm_reader.specs.declared.reason.ReadStop.{ReadStop}
 use Rattle.qasm_reader.specs.declared.reason.ReadStop.TheVariants.{Refused as Stopped, OutOfMemory}
-use Rattle.qasm_reader.specs.Lexemes.{lexemes_of}
-use Rattle.qasm_reader.specs.Statements.{Statement}
+use Rattle.qasm_forms.specs.Statements.{Statement}
 use Rattle.qasm_reader.specs.Acts.{Act, circuit_of}
 use Rattle.qasm_reader.specs.Calls.{Does}
 use Rattle.qasm_reader.specs.Parts.{Part, parts_of, Has}
@@ -20,7 +19,7 @@ pub record Accepts (limit : ℕ) (before : List Act) (part : Part) (act : Act) :
   pub free : IsFree limit before part
   pub statement : Statement
   pub has : Has before part statement
-  pub does : Does statement act
+  pub does : Does before statement act
 
 -- statements are accepted one after the other
 abbrev pub AllAccepted : ℕ → List Act → List Part → List Act → Type 0

@@ -1,30 +1,29 @@
 -- The reasons for which a statement is refused, and their order.
-use Rattle.std.specs.Prelude.{◌≡◌, ◌⊎◌, ℕ, ◌<◌, Bool, true, false, ◌||◌, not, nat_eq, nat_le, nat_lt, List, [], ◌∷◌, ◌++◌, length, is_some, Option, Some, None, codes}
+use Rattle.std.specs.Prelude.{◌≡◌, ◌≢◌, ◌⊎◌, ℕ, ◌<◌, Bool, true, false, ◌||◌, not, nat_eq, nat_le, nat_lt, List, [], ◌∷◌, ◌++◌, length, All, AllPairs, is_some, Option, Some, None, Err, codes}
 use Rattle.std.specs.List.{list_any}
 use Rattle.std.specs.Str.{bytes_eq}
-use Rattle.qasm_lex.specs.Symbols.{decimal}
-use Rattle.qasm_reader.specs.declared.registers.Register.{Register}
-use Rattle.qasm_reader.specs.declared.registers.Target.{Target}
-use Rattle.qasm_reader.specs.declared.builtin.Builtin.{Builtin}
-use Rattle.qasm_reader.specs.declared.turn.Turned.TheVariants.{Refused, OffGrid as OffTheGrid}
+use Rattle.qasm_lex.specs.declared.refusal.AngleRefusal.{AngleRefusal}
+use Rattle.qasm_lex.specs.Lexemes.{Lexeme}
+use Rattle.qasm_lex.specs.Symbols.{decimal, symbols}
+use Rattle.qasm_lex.specs.Fractions.{Ratio}
+use Rattle.qasm_lex.specs.Angles.{IsAnswer}
+use Rattle.qasm_forms.specs.Statements.{Statement, version, include, qubits, bits, barrier, measure, call, left_out, Argument}
 use Rattle.qasm_reader.specs.declared.reason.Why.{Why}
 use Rattle.qasm_reader.specs.declared.reason.Why.TheVariants.{BadByte, NoVersion, NotAStatement, OutOfProfile, UnknownName, Redeclared, UnknownRegister, IndexOutOfRange, WrongCount, SizesDiffer, RepeatedQubit, AngleRefused, OffGrid, Measured, TooManyQubits, TooManyGates}
-use Rattle.qasm_reader.specs.Lexemes.{Lexeme}
-use Rattle.qasm_reader.specs.Statements.{Statement, version, include, qubits, bits, barrier, measure, call, left_out, Argument}
-use Rattle.qasm_reader.specs.Acts.{Act, register, registers, target, targets, wholes, places, qubits_at, up_to, is_among, measured, qubit_count, gates}
-use Rattle.qasm_reader.specs.Calls.{builtin, arity, angle_count, IsTurned, Does}
+use Rattle.qasm_reader.specs.Acts.{Act, Item, Register, Target, register, registers, index_of, target, targets, wholes, place_count, qubits_at, measured, qubit_count, gates}
+use Rattle.qasm_reader.specs.Calls.{Named, gate_named, arity, angle_count, Gives, AreValues, listed, Does}
 use Rattle.qasm_reader.specs.Parts.{Part, Has}
 
--- an out-of-profile statement, or the include of another file
+-- what is left out, or the include of another file
 abbrev pub out_of_profile : Statement → Bool
 out_of_profile (left_out name more) = true
 out_of_profile (include text) = not (bytes_eq text (codes "\"qelib1.inc\""))
 out_of_profile _ = false
 
 -- a call of a name that no gate has
-abbrev pub unknown_name : Statement → Bool
-unknown_name (call name angles arguments) = not (is_some (builtin name))
-unknown_name _ = false
+abbrev pub unknown_name : List Act → Statement → Bool
+unknown_name before (call name angles arguments) = not (is_some (gate_named before name))
+unknown_name before _ = false
 
 abbrev pub is_declared : List (List ℕ × Register) → List ℕ → Bool
 is_declared all name = is_some (register all name)
@@ -58,13 +57,14 @@ is_unknown all quantum a = not (same_sort quantum (register all a.name))
 abbrev pub unknown_register : List (List ℕ × Register) → Statement → Bool
 unknown_register all s = list_any (is_unknown all true) (qubit_arguments s) || list_any (is_unknown all false) (bit_arguments s)
 
-abbrev pub reaches : Option ℕ → ℕ → Bool
-reaches None size = false
-reaches (Some i) size = nat_le size i
+abbrev pub reaches : Option Register → Option ℕ → Bool
+reaches (Some r) (Some i) = nat_le r.size i
+reaches (Some r) None = false
+reaches None index = false
 
--- the index isn't below the register's size
-abbrev pub is_beyond : Target → Bool
-is_beyond t = reaches t.index t.register.size
+-- the argument's index isn't below the size of its register
+abbrev pub is_beyond : List (List ℕ × Register) → Argument → Bool
+is_beyond all a = reaches (register all a.name) (index_of a.index)
 
 -- 0, or more than 1,000,000
 abbrev pub no_size : ℕ → Bool
@@ -76,69 +76,83 @@ bad_size (bits name size) = no_size (decimal size)
 bad_size _ = false
 
 abbrev pub out_of_range : List (List ℕ × Register) → Statement → Bool
-out_of_range all s = bad_size s || (list_any is_beyond (targets all (qubit_arguments s)) || list_any is_beyond (targets all (bit_arguments s)))
-
-abbrev pub number_of : Option (List (List Lexeme)) → ℕ
-number_of None = 0
-number_of (Some angles) = length angles
+out_of_range all s = bad_size s || (list_any (is_beyond all) (qubit_arguments s) || list_any (is_beyond all) (bit_arguments s))
 
 -- another number of arguments or of angles than the gate has
-abbrev pub miscounts : Option Builtin → ℕ → ℕ → Bool
+abbrev pub miscounts : Option Named → ℕ → ℕ → Bool
 miscounts None arguments angles = false
-miscounts (Some gate) arguments angles = not (nat_eq arguments (arity gate)) || not (nat_eq angles (angle_count gate))
+miscounts (Some named) arguments angles = not (nat_eq arguments (arity named)) || not (nat_eq angles (angle_count named))
 
-abbrev pub wrong_count : Statement → Bool
-wrong_count (call name angles arguments) = miscounts (builtin name) (length arguments) (number_of angles)
-wrong_count _ = false
+abbrev pub wrong_count : List Act → Statement → Bool
+wrong_count before (call name angles arguments) = miscounts (gate_named before name) (length arguments) (length (listed angles))
+wrong_count before _ = false
 
--- some size isn't the first one
-abbrev pub differ : List ℕ → Bool
-differ [] = false
-differ (n ∷ ns) = list_any (λ m. not (nat_eq m n)) ns
+-- sizes that aren't all equal
+abbrev pub AreUnequal : List ℕ → Type 0
+AreUnequal sizes = AllPairs (λ m n. m ≡ n) sizes → ⊥
 
 -- two whole registers of a call differ in size, or the two sides of a measure, where a single place has size 1
-abbrev pub sizes_differ : List (List ℕ × Register) → Statement → Bool
-sizes_differ all (call name angles arguments) = differ (wholes (targets all arguments))
-sizes_differ all (measure from to) = not (nat_eq (places (wholes (target all from ∷ []))) (places (wholes (target all to ∷ []))))
-sizes_differ all _ = false
+abbrev pub DifferInSize : List (List ℕ × Register) → Statement → Type 0
+DifferInSize all (call name angles arguments) = (ts : List Target) × (targets all arguments ≡ Some ts) × AreUnequal (wholes ts)
+DifferInSize all (measure from to) = (f t : Target) × (target all from ≡ Some f) × (target all to ≡ Some t) × (place_count (f ∷ []) ≢ place_count (t ∷ []))
+DifferInSize all _ = ⊥
 
-abbrev pub has_twice : List ℕ → Bool
-has_twice [] = false
-has_twice (q ∷ qs) = is_among qs q || has_twice qs
+-- at some place of a call its qubits have the property
+abbrev pub AtSomePlace : List (List ℕ × Register) → (List ℕ → Type 0) → Statement → Type 0
+AtSomePlace all P (call name angles arguments) = (ts : List Target) × (targets all arguments ≡ Some ts) × (place : ℕ) × (place < place_count ts) × P (qubits_at ts place)
+AtSomePlace all P _ = ⊥
 
--- one of the repeated calls has a qubit twice
-abbrev pub repeated_qubit : List (List ℕ × Register) → Statement → Bool
-repeated_qubit all (call name angles arguments) = let ts = targets all arguments in list_any (λ place. has_twice (qubits_at ts place)) (up_to (places (wholes ts)))
-repeated_qubit all _ = false
+-- some two qubits are equal
+abbrev pub Repeats : List ℕ → Type 0
+Repeats qs = AllPairs (λ p q. p ≢ q) qs → ⊥
 
--- the angle of a call that has one
-abbrev pub HasAngle : Statement → List Lexeme → Type 0
-HasAngle (call name angles arguments) angle = angles ≡ Some (angle ∷ [])
-HasAngle _ angle = ⊥
+-- some qubit is one of those that are gone
+abbrev pub Meets : List ℕ → List ℕ → Type 0
+Meets gone qs = All (λ q. All (λ p. q ≢ p) gone) qs → ⊥
 
--- a call has a qubit that is measured
-abbrev pub is_measured : List ℕ → List (List ℕ × Register) → Statement → Bool
-is_measured gone all (call name angles arguments) = let ts = targets all arguments in list_any (λ place. list_any (is_among gone) (qubits_at ts place)) (up_to (places (wholes ts)))
-is_measured gone all _ = false
+abbrev pub angles_of : Statement → List (List Lexeme)
+angles_of (call name angles arguments) = listed angles
+angles_of _ = []
+
+-- the first of the angles that is refused is refused so
+pub record FirstRefused (angles : List (List Lexeme)) (e : AngleRefusal) : Type 0 where
+  pub good : List (List Lexeme)
+  pub angle : List Lexeme
+  pub more : List (List Lexeme)
+  pub values : List Ratio
+  pub split : angles ≡ good ++ (angle ∷ more)
+  pub valued : AreValues good values
+  pub refused : IsAnswer (symbols angle) (Err e)
+
+-- the gate of a call does nothing for the values of its angles
+pub record IsOffGrid (named : Option Named) (angles : List (List Lexeme)) : Type 0 where
+  pub called : Named
+  pub values : List Ratio
+  pub is : named ≡ Some called
+  pub valued : AreValues angles values
+  pub none : (items : List Item) → Gives called values items → ⊥
+
+-- the gate that a statement calls, if it has the name of one
+abbrev pub called_in : List Act → Statement → Option Named
+called_in before (call name angles arguments) = gate_named before name
+called_in before _ = None
 
 -- a statement breaks a rule of its meaning, given what was done before it
 abbrev pub Breaks : ℕ → List Act → Statement → Why → Type 0
 Breaks limit before s OutOfProfile = out_of_profile s ≡ true
-Breaks limit before s UnknownName = unknown_name s ≡ true
+Breaks limit before s UnknownName = unknown_name before s ≡ true
 Breaks limit before s Redeclared = redeclared (registers before) s ≡ true
 Breaks limit before s UnknownRegister = unknown_register (registers before) s ≡ true
 Breaks limit before s IndexOutOfRange = out_of_range (registers before) s ≡ true
-Breaks limit before s WrongCount = wrong_count s ≡ true
-Breaks limit before s SizesDiffer = sizes_differ (registers before) s ≡ true
-Breaks limit before s RepeatedQubit = repeated_qubit (registers before) s ≡ true
-Breaks limit before s (AngleRefused e) = (angle : List Lexeme) × HasAngle s angle × IsTurned angle (Refused e)
-Breaks limit before s OffGrid = (angle : List Lexeme) × HasAngle s angle × IsTurned angle OffTheGrid
-Breaks limit before s Measured = is_measured (measured before) (registers before) s ≡ true
-Breaks limit before s TooManyQubits = (act : Act) × Does s act × (limit < qubit_count (before ++ act ∷ []))
-Breaks limit before s TooManyGates = (act : Act) × Does s act × (1000000 < length (gates (before ++ act ∷ [])))
-Breaks limit before s (BadByte place) = ⊥
-Breaks limit before s NoVersion = ⊥
-Breaks limit before s NotAStatement = ⊥
+Breaks limit before s WrongCount = wrong_count before s ≡ true
+Breaks limit before s SizesDiffer = DifferInSize (registers before) s
+Breaks limit before s RepeatedQubit = AtSomePlace (registers before) Repeats s
+Breaks limit before s (AngleRefused e) = FirstRefused (angles_of s) e
+Breaks limit before s OffGrid = IsOffGrid (called_in before s) (angles_of s)
+Breaks limit before s Measured = AtSomePlace (registers before) (Meets (measured before)) s
+Breaks limit before s TooManyQubits = (act : Act) × Does before s act × (limit < qubit_count (before ++ act ∷ []))
+Breaks limit before s TooManyGates = (act : Act) × Does before s act × (1000000 < length (gates (before ++ act ∷ [])))
+Breaks limit before s _ = ⊥
 
 -- the reason holds for a statement of a text, given what was done before it
 abbrev pub Holds : ℕ → List Act → Part → Why → Type 0

@@ -1,6 +1,9 @@
 //! The gates that have names.
-ghost use Rattle.std.specs.Prelude.{◌≡◌, ◌≤◌};
-ghost use Rattle.qasm_reader.specs.Calls.{builtin, arity, angle_count, turn_kind, turn_times};
+ghost use Rattle.std.specs.Prelude.{◌≡◌, ◌<◌, ◌&&◌, nat_eq};
+ghost use Rattle.gate_set.specs.Matrix.{arity_of};
+ghost use Rattle.qasm_reader.specs.Calls.{builtin, arity, angle_count, turns};
+ghost use Rattle.qasm_reader.specs.Private.Seen.{seen_named, seen_name};
+ghost use Rattle.qasm_reader.specs.Private.Scope.{items_of};
 
 use gate_set::Kind;
 
@@ -14,89 +17,69 @@ pub enum Builtin {
 }
 
 impl Builtin {
-    pub fn arity(self) -> usize
-        ensures { result ≡ arity self }
+    fn arity(self) -> u8
+        ensures { result ≡ arity (seen_named self) }
     {
         match self {
-            Builtin::Gate(kind) => usize::from(kind.arity()),
+            Builtin::Gate(kind) => kind.arity(),
             Builtin::Turn(_, _) => 1,
         }
     }
 
-    pub fn angle_count(self) -> usize
-        ensures { result ≡ angle_count self }
+    fn angle_count(self) -> u8
+        ensures { result ≡ angle_count (seen_named self) }
     {
         match self {
             Builtin::Gate(_) => 0,
             Builtin::Turn(_, _) => 1,
         }
     }
+
+    /// Whether it has so many arguments and angles.
+    pub fn has_counts(self, arguments: u8, angles: u8) -> bool
+        ensures { result ≡ nat_eq arguments (arity (seen_named self)) && nat_eq angles (angle_count (seen_named self)) }
+    {
+        arguments == self.arity() && angles == self.angle_count()
+    }
 }
 
 /// The gate of a name.
 #[tactic(auto, unfolding(crate::specs::Calls::builtin))]
 pub fn gate_named(name: &[u8]) -> Option<Builtin>
-    ensures { result ≡ builtin name.now }
+    ensures { seen_name result ≡ builtin name.now }
 {
-    if name == b"id".as_slice() {
-        Some(Builtin::Gate(Kind::Id))
-    } else if name == b"x".as_slice() {
-        Some(Builtin::Gate(Kind::X))
-    } else if name == b"y".as_slice() {
-        Some(Builtin::Gate(Kind::Y))
-    } else if name == b"z".as_slice() {
-        Some(Builtin::Gate(Kind::Z))
-    } else if name == b"h".as_slice() {
-        Some(Builtin::Gate(Kind::H))
-    } else if name == b"s".as_slice() {
-        Some(Builtin::Gate(Kind::S))
-    } else if name == b"sdg".as_slice() {
-        Some(Builtin::Gate(Kind::Sdg))
-    } else if name == b"t".as_slice() {
-        Some(Builtin::Gate(Kind::T))
-    } else if name == b"tdg".as_slice() {
-        Some(Builtin::Gate(Kind::Tdg))
-    } else if name == b"rx".as_slice() {
-        Some(Builtin::Turn(Kind::RxP, Kind::RxM))
-    } else if name == b"ry".as_slice() {
-        Some(Builtin::Turn(Kind::RyP, Kind::RyM))
-    } else if name == b"cx".as_slice() {
-        Some(Builtin::Gate(Kind::Cx))
-    } else if name == b"cz".as_slice() {
-        Some(Builtin::Gate(Kind::Cz))
-    } else if name == b"swap".as_slice() {
-        Some(Builtin::Gate(Kind::Swap))
-    } else if name == b"ccx".as_slice() {
-        Some(Builtin::Gate(Kind::Ccx))
-    } else if name == b"cswap".as_slice() {
-        Some(Builtin::Gate(Kind::Cswap))
-    } else {
-        None
+    match name {
+        b"id" => Some(Builtin::Gate(Kind::Id)),
+        b"x" => Some(Builtin::Gate(Kind::X)),
+        b"y" => Some(Builtin::Gate(Kind::Y)),
+        b"z" => Some(Builtin::Gate(Kind::Z)),
+        b"h" => Some(Builtin::Gate(Kind::H)),
+        b"s" => Some(Builtin::Gate(Kind::S)),
+        b"sdg" => Some(Builtin::Gate(Kind::Sdg)),
+        b"t" => Some(Builtin::Gate(Kind::T)),
+        b"tdg" => Some(Builtin::Gate(Kind::Tdg)),
+        b"rx" => Some(Builtin::Turn(Kind::RxP, Kind::RxM)),
+        b"ry" => Some(Builtin::Turn(Kind::RyP, Kind::RyM)),
+        b"cx" => Some(Builtin::Gate(Kind::Cx)),
+        b"cz" => Some(Builtin::Gate(Kind::Cz)),
+        b"swap" => Some(Builtin::Gate(Kind::Swap)),
+        b"ccx" => Some(Builtin::Gate(Kind::Ccx)),
+        b"cswap" => Some(Builtin::Gate(Kind::Cswap)),
+        _ => None,
     }
 }
 
-/// The kind of the quarter turns that a number of them is done by.
-pub fn turn_kind(forth: Kind, back: Kind, quarters: u8) -> Kind
-    ensures { result ≡ turn_kind forth back quarters }
+/// How a number of quarter turns is done: by how many of which kind.
+pub fn turns(forth: Kind, back: Kind, quarters: u8) -> (Kind, u8)
+    requires { quarters < 8 }
+    ensures items { items_of result ≡ turns forth back quarters }
+    ensures arity { arity_of forth ≡ 1 → arity_of back ≡ 1 → arity_of result.0 ≡ 1 }
 {
     if quarters == 0 {
-        Kind::Id
+        (Kind::Id, 1)
     } else if quarters <= 4 {
-        forth
+        (forth, quarters)
     } else {
-        back
-    }
-}
-
-/// How many of them.
-pub fn turn_times(quarters: u8) -> u8
-    ensures { result ≡ turn_times quarters }
-{
-    if quarters == 0 {
-        1
-    } else if quarters <= 4 {
-        quarters
-    } else {
-        8u8.saturating_sub(quarters)
+        (back, 8 - quarters)
     }
 }

@@ -1,76 +1,136 @@
 //! Calls of gates: why they are refused, and what they do.
-ghost use Rattle.std.specs.Prelude.{◌≡◌, ◌≤◌, ◌+◌, ◌*◌, length, IfOk};
+ghost use Rattle.std.specs.Prelude.{◌≡◌, ◌+◌, ◌*◌, ◌≤◌, true, false, length, ℕ, List, Some, IfOk};
 ghost use Rattle.std.specs.List.{list_any};
-ghost use Rattle.qasm_reader.specs.Reasons.{is_unknown};
-ghost use Rattle.qasm_reader.specs.Scope.{resolve, resolved, turned_call, outcome_on};
+ghost use Rattle.qasm_lex.specs.Lexemes.{Lexeme};
+ghost use Rattle.qasm_reader.specs.Acts.{targets};
+ghost use Rattle.gate_set.specs.Matrix.{arity_of};
+ghost use Rattle.qasm_reader.specs.Calls.{turn, builtin, arity, angle_count, listed};
+ghost use Rattle.qasm_reader.specs.Reasons.{is_unknown, is_beyond};
+ghost use Rattle.qasm_reader.specs.Private.Seen.{seen_targets, seen_named, seen_find};
+ghost use Rattle.qasm_reader.specs.Private.Scope.{seen_found, nothing_found, noted, look, capped, bodies, outcome_on};
+ghost use Rattle.qasm_reader.specs.Private.Tests.{Taken, Yields, angle_list, first_listed};
+ghost use Rattle.qasm_reader.specs.Private.Drafts.{bodied};
 
-use crate::argument::Argument;
-use crate::builtin::{Builtin, gate_named, turn_kind, turn_times};
+use crate::builtin::{Builtin, turns};
 use crate::reason::Why;
-use crate::registers::{Registers, Target};
+use crate::registers::{Miss, Registers, Target};
 use crate::targets::{places, repeats, sizes_differ, touches};
-use crate::turn::Turned;
-use bit_lists::OutOfMemory;
+use arrayvec::ArrayVec;
 use gate_set::Kind;
+use qasm_forms::{Angles, Arguments, Lexemes};
+use qasm_lex::quarter;
 
 /// The most gates of a circuit.
 const MOST_GATES: u64 = 1000000;
 
-// Whether an argument names no register of this sort.
-#[tactic(auto, using(crate::proofs::Resolving::any_at, crate::proofs::Resolving::none_so_far, crate::proofs::Resolving::any_end))]
-pub fn any_unknown(registers: &Registers<'_>, arguments: &[Argument<'_>], quantum: bool) -> bool
-    ensures { result ≡ list_any (is_unknown registers.now quantum) arguments.now }
-{
-    for argument in arguments {
-        if registers.is_unknown(argument, quantum) {
-            return true;
+/// More arguments than any gate has.
+const MANY: u8 = 4;
+
+/// What the arguments of a statement mean: the first three of them, how many there are, counted up to 4, and whether some miss.
+#[derive(Drop)]
+pub struct Found {
+    pub targets: ArrayVec<Target, 3>,
+    pub count: u8,
+    pub unknown: bool,
+    pub beyond: bool,
+}
+
+impl Found {
+    // One argument more.
+    fn note(&mut self, found: Result<Target, Miss>)
+        requires { length self.old.targets.items ≤ 3 }
+        ensures noted { seen_found self.new ≡ noted (seen_found self.old) (seen_find found) }
+        ensures few { length self.new.targets.items ≤ 3 }
+    {
+        match found {
+            Ok(target) => {
+                if self.targets.len() < 3 {
+                    self.targets.push(target);
+                }
+            }
+            Err(Miss::Unknown) => self.unknown = true,
+            Err(Miss::Beyond) => self.beyond = true,
+        }
+        if self.count < MANY {
+            self.count += 1;
         }
     }
-    false
 }
 
-/// Puts what the arguments mean into the list. False where an index isn't below its register's size.
-#[tactic(auto, using(crate::proofs::Resolving::none_at, crate::proofs::Resolving::more_at, crate::proofs::Resolving::resolve_start, crate::proofs::Resolving::end_at))]
-pub fn resolve(
-    registers: &Registers<'_>,
-    arguments: &[Argument<'_>],
-    into: &mut Vec<Target>,
-) -> Result<bool, OutOfMemory>
-    ensures { IfOk result (λ good. resolved good into.new.items ≡ resolve registers.now arguments.now) }
+/// What arguments mean as qubits. Each is looked up once.
+pub fn look_up(registers: &Registers<'_>, arguments: Arguments<'_>) -> Found
+    ensures unknown { result.unknown ≡ list_any (is_unknown registers.now true) arguments.entry }
+    ensures beyond { result.unknown ≡ false → result.beyond ≡ list_any (is_beyond registers.now) arguments.entry }
+    ensures count { result.count ≡ capped 4 (length arguments.entry) }
+    ensures means { result.unknown ≡ false → result.beyond ≡ false → length arguments.entry ≤ 3 → targets registers.now arguments.entry ≡ Some (seen_targets result.targets.items) }
 {
-    into.clear();
-    for argument in arguments {
-        let Some(target) = registers.target(argument) else {
-            return Ok(false);
-        };
-        into.push(target)?;
+    let mut rest = arguments.ahead();
+    let mut found = Found {
+        targets: ArrayVec::new(),
+        count: 0,
+        unknown: false,
+        beyond: false,
+    };
+    while let Some(argument) = rest.next() {
+        found.note(registers.find(&argument, true));
     }
-    Ok(true)
+    found
 }
 
-// How often a gate of which kind is done at each place.
-fn turned_call(gate: Builtin, turned: Turned) -> Result<(Kind, u8), Why>
-    ensures { result ≡ turned_call gate turned }
+/// The first angle of a call, and how many there are, counted up to 2.
+pub fn first_angle(angles: Option<Angles<'_>>) -> (Option<Lexemes<'_>>, u8)
+    ensures first { result.0 ≡ first_listed (listed angles.entry) }
+    ensures count { result.1 ≡ capped 2 (length (listed angles.entry)) }
 {
-    match gate {
-        Builtin::Gate(kind) => Ok((kind, 1)),
-        Builtin::Turn(forth, back) => match turned {
-            Turned::Refused(refusal) => Err(Why::AngleRefused(refusal)),
-            Turned::OffGrid => Err(Why::OffGrid),
-            Turned::Quarters(m) => Ok((turn_kind(forth, back, m), turn_times(m))),
+    let Some(mut rest) = angles else {
+        return (None, 0);
+    };
+    let Some(first) = rest.next() else {
+        return (None, 0);
+    };
+    if rest.next().is_some() {
+        (Some(first), 2)
+    } else {
+        (Some(first), 1)
+    }
+}
+
+// How the turns by an angle are done.
+fn turned(forth: Kind, back: Kind, angle: &Lexemes<'_>) -> Result<(Kind, u8), Why>
+    ensures yields { (t : Taken) → Yields (Some (turn forth back)) (angle_list (Some angle.now)) t → bodies result ≡ bodied t }
+    ensures arity { arity_of forth ≡ 1 → arity_of back ≡ 1 → IfOk result (λ p. arity_of p.0 ≡ 1) }
+{
+    match angle.fraction() {
+        Err(refusal) => Err(Why::AngleRefused(refusal)),
+        Ok(f) => match quarter(f) {
+            Some(quarters) => Ok(turns(forth, back, quarters)),
+            None => Err(Why::OffGrid),
         },
     }
 }
 
-// Why a call on these targets is refused, or how often a gate of which kind is done at each place.
+/// How often a gate of which kind is done at each place, by the angle of the call where the gate has one.
+pub fn body_of(gate: Builtin, angle: Option<Lexemes<'_>>) -> Result<(Kind, u8), Why>
+    ensures arity { (name : List ℕ) → builtin name ≡ Some (seen_named gate) → IfOk result (λ p. arity_of p.0 ≡ arity (seen_named gate)) }
+    ensures yields { (t : Taken) → Yields (Some (seen_named gate)) (angle_list angle.entry) t → length (angle_list angle.entry) ≡ angle_count (seen_named gate) → bodies result ≡ bodied t }
+{
+    match gate {
+        Builtin::Gate(kind) => Ok((kind, 1)),
+        Builtin::Turn(forth, back) => match angle {
+            Some(angle) => turned(forth, back, &angle),
+            None => Err(Why::WrongCount),
+        },
+    }
+}
+
+/// Why a call on these targets is refused, or how often a gate of which kind is done at each place.
 pub fn outcome_on(
-    gate: Builtin,
-    turned: Turned,
+    body: Result<(Kind, u8), Why>,
     targets: &[Target],
     flags: &[bool],
     gates: u32,
 ) -> Result<(Kind, u8), Why>
-    ensures { result ≡ outcome_on gate turned targets.now flags.now gates }
+    ensures { result ≡ outcome_on body (seen_targets targets.now) flags.now gates }
 {
     if sizes_differ(targets) {
         return Err(Why::SizesDiffer);
@@ -78,7 +138,7 @@ pub fn outcome_on(
     if repeats(targets) {
         return Err(Why::RepeatedQubit);
     }
-    let (kind, times) = turned_call(gate, turned)?;
+    let (kind, times) = body?;
     if touches(flags, targets) {
         return Err(Why::Measured);
     }

@@ -1,14 +1,15 @@
 //! The circuit of the statements so far with its registers, and statements carried out on it.
 ghost use Rattle.std.specs.Prelude.{◌≡◌, ◌≤◌, ◌<◌, ◌++◌, ◌∷◌, [], ℕ, List, length, replicate, false, IfOk, OnOk};
 ghost use Rattle.gate_set.specs.Circuits.{IsCircuit};
-ghost use Rattle.qasm_lex.specs.Symbols.{decimal};
-ghost use Rattle.qasm_reader.specs.Lexemes.{Lexeme};
-ghost use Rattle.qasm_reader.specs.Acts.{qubit_at, qubits_of};
-ghost use Rattle.qasm_reader.specs.Calls.{builtin};
-ghost use Rattle.qasm_reader.specs.Reasons.{no_size};
-ghost use Rattle.qasm_reader.specs.Scope.{number_below};
-ghost use Rattle.qasm_reader.specs.Parsing.{shown};
-ghost use Rattle.qasm_reader.specs.Drafts.{
+ghost use Rattle.qasm_lex.specs.Symbols.{decimal, number_below};
+ghost use Rattle.qasm_forms.specs.Shown.{shown};
+ghost use Rattle.qasm_reader.specs.Acts.{place_count, qubit_at, qubits_of};
+ghost use Rattle.qasm_reader.specs.Calls.{builtin, listed};
+ghost use Rattle.qasm_reader.specs.Reasons.{no_size, angles_of, called_in};
+ghost use Rattle.qasm_reader.specs.Private.Seen.{seen_target, seen_named, seen_find, seen_both};
+ghost use Rattle.qasm_reader.specs.Private.Scope.{both_found};
+ghost use Rattle.qasm_reader.specs.Private.Tests.{Taken, Yields};
+ghost use Rattle.qasm_reader.specs.Private.Drafts.{
   Draft as Shown,
   IsDraft,
   draft_of,
@@ -18,33 +19,31 @@ ghost use Rattle.qasm_reader.specs.Drafts.{
   bits_on,
   barrier_on,
   raised,
-  place_count,
   measure_on,
   gate_on,
   call_on,
   step,
   size_of,
   circuit_in,
+  or_redeclared,
 };
 
 use crate::apply::apply;
-use crate::argument::Argument;
 use crate::builtin::{Builtin, gate_named};
-use crate::calls::{any_unknown, outcome_on, resolve};
-use crate::digits::number_below;
-use crate::lexemes::Lexemes;
+use crate::calls::{body_of, first_angle, look_up, outcome_on};
+use crate::hashing::KeyedNames;
 use crate::reason::Why;
-use crate::registers::{Register, Registers, Target};
-use crate::statement::Form;
+use crate::registers::{Miss, Register, Registers, Target};
 use crate::targets::qubit_at;
-use crate::turn::Turned;
 use bit_lists::OutOfMemory;
 use gate_set::{Circuit, Gate};
+use qasm_forms::{Angles, Argument, Arguments, Form};
+use qasm_lex::number_below;
 use std::alloc::Global;
 use std::marker::Model;
 
 /// More than the most places of a register.
-const PAST_SIZES: u32 = 1000001;
+const PAST_SIZES: u64 = 1000001;
 
 /// The circuit of the statements so far, with its registers.
 #[derive(Drop)]
@@ -56,7 +55,7 @@ pub struct Draft<'a> {
 }
 
 impl<'a> Model for Draft<'a> {
-    ghost use Rattle.qasm_reader.specs.Drafts.{Draft as Shown};
+    ghost use Rattle.qasm_reader.specs.Private.Drafts.{Draft as Shown};
 
     ghost Value = { Shown };
 
@@ -67,13 +66,13 @@ impl<'a> Model for Draft<'a> {
 fn size_of(digits: &[u8]) -> Option<u32>
     ensures { result ≡ size_of (decimal digits.now) }
 {
-    let size = number_below(digits, PAST_SIZES)?;
+    let size = number_below(digits, PAST_SIZES)? as u32;
     if size == 0 { None } else { Some(size) }
 }
 
 // How many places an argument has.
 fn place_count(target: Target) -> u32
-    ensures { result ≡ place_count target }
+    ensures { result ≡ place_count (seen_target target ∷ []) }
 {
     match target.index {
         None => target.register.size,
@@ -94,8 +93,8 @@ fn add_flags(flags: &mut Vec<bool>, count: u32) -> Result<(), OutOfMemory>
 
 // Raises the flags of an argument's qubits.
 fn raise(flags: &mut [bool], target: Target)
-    requires { (place : ℕ) → place < place_count target → qubit_at place target < length flags.old }
-    ensures { flags.new ≡ raised flags.old (qubits_of target) }
+    requires { (place : ℕ) → place < place_count (seen_target target ∷ []) → qubit_at place (seen_target target) < length flags.old }
+    ensures { flags.new ≡ raised flags.old (qubits_of (seen_target target)) }
 {
     for place in 0..place_count(target) {
         flags[qubit_at(target, place) as usize] = true;
@@ -112,13 +111,30 @@ fn include(text: &[u8]) -> Option<Why>
     }
 }
 
+// Both of two that are found. An unknown register is told first.
+fn both(source: Result<Target, Miss>, sink: Result<Target, Miss>) -> Result<(Target, Target), Miss>
+    ensures { seen_both result ≡ both_found (seen_find source) (seen_find sink) }
+{
+    match source {
+        Ok(from) => match sink {
+            Ok(to) => Ok((from, to)),
+            Err(miss) => Err(miss),
+        },
+        Err(Miss::Unknown) => Err(Miss::Unknown),
+        Err(Miss::Beyond) => match sink {
+            Ok(_) => Err(Miss::Beyond),
+            Err(miss) => Err(miss),
+        },
+    }
+}
+
 impl<'a> Draft<'a> {
-    /// No statements.
-    pub fn new(alloc: Global) -> Draft<'a>
+    /// No statements. Names are hashed so.
+    pub fn new(alloc: Global, names: KeyedNames) -> Draft<'a>
         ensures { result ≡ draft_of [] }
     {
         Draft {
-            registers: Registers::new(alloc),
+            registers: Registers::new(alloc, names),
             qubits: 0,
             gates: Vec::new(alloc),
             measured: Vec::new(alloc),
@@ -138,6 +154,16 @@ impl<'a> Draft<'a> {
         }
     }
 
+    // That the name is declared, or this reason.
+    fn unless_declared(&self, name: &[u8], why: Why) -> Why
+        ensures { result ≡ or_redeclared self.now.registers name.now why }
+    {
+        match self.registers.get(name) {
+            Some(_) => Why::Redeclared,
+            None => why,
+        }
+    }
+
     // Declares qubits, with numbers that follow those before.
     fn declare_qubits(
         &mut self,
@@ -148,21 +174,20 @@ impl<'a> Draft<'a> {
         requires { IsDraft self.old }
         ensures { IfOk result (λ why. outcome why self.new ≡ qubits_on limit self.old name.now (decimal digits.now)) }
     {
-        if self.registers.get(name).is_some() {
-            return Ok(Some(Why::Redeclared));
-        }
         let Some(size) = size_of(digits) else {
-            return Ok(Some(Why::IndexOutOfRange));
+            return Ok(Some(self.unless_declared(name, Why::IndexOutOfRange)));
         };
         if self.qubits + size > u32::from(limit) {
-            return Ok(Some(Why::TooManyQubits));
+            return Ok(Some(self.unless_declared(name, Why::TooManyQubits)));
         }
         let place = Register {
             quantum: true,
             first: self.qubits,
             size,
         };
-        self.registers.declare(name, place)?;
+        if !self.registers.declare(name, place)? {
+            return Ok(Some(Why::Redeclared));
+        }
         add_flags(&mut self.measured, size)?;
         self.qubits += size;
         Ok(None)
@@ -171,56 +196,50 @@ impl<'a> Draft<'a> {
     fn declare_bits(&mut self, name: &'a [u8], digits: &[u8]) -> Result<Option<Why>, OutOfMemory>
         ensures { IfOk result (λ why. outcome why self.new ≡ bits_on self.old name.now (decimal digits.now)) }
     {
-        if self.registers.get(name).is_some() {
-            return Ok(Some(Why::Redeclared));
-        }
         let Some(size) = size_of(digits) else {
-            return Ok(Some(Why::IndexOutOfRange));
+            return Ok(Some(self.unless_declared(name, Why::IndexOutOfRange)));
         };
         let place = Register {
             quantum: false,
             first: 0,
             size,
         };
-        self.registers.declare(name, place)?;
-        Ok(None)
-    }
-
-    fn barrier(
-        &self,
-        arguments: &[Argument<'a>],
-        targets: &mut Vec<Target>,
-    ) -> Result<Option<Why>, OutOfMemory>
-        ensures { IfOk result (λ why. outcome why self.now ≡ barrier_on self.now arguments.now) }
-    {
-        if any_unknown(&self.registers, arguments, true) {
-            return Ok(Some(Why::UnknownRegister));
-        }
-        if resolve(&self.registers, arguments, targets)? {
+        if self.registers.declare(name, place)? {
             Ok(None)
         } else {
-            Ok(Some(Why::IndexOutOfRange))
+            Ok(Some(Why::Redeclared))
         }
     }
 
-    fn measure(&mut self, from: &Argument<'a>, to: &Argument<'a>) -> Option<Why>
+    fn barrier(&self, arguments: Arguments<'_>) -> Option<Why>
+        ensures { outcome result self.now ≡ barrier_on self.now arguments.entry }
+    {
+        let found = look_up(&self.registers, arguments);
+        if found.unknown {
+            Some(Why::UnknownRegister)
+        } else if found.beyond {
+            Some(Why::IndexOutOfRange)
+        } else {
+            None
+        }
+    }
+
+    fn measure(&mut self, from: &Argument<'_>, to: &Argument<'_>) -> Option<Why>
         requires { IsDraft self.old }
         ensures { outcome result self.new ≡ measure_on self.old from.now to.now }
     {
-        if self.registers.is_unknown(from, true) || self.registers.is_unknown(to, false) {
-            return Some(Why::UnknownRegister);
+        let source = self.registers.find(from, true);
+        let sink = self.registers.find(to, false);
+        match both(source, sink) {
+            Err(miss) => Some(miss.why()),
+            Ok((source, sink)) => {
+                if place_count(source) != place_count(sink) {
+                    return Some(Why::SizesDiffer);
+                }
+                raise(&mut self.measured, source);
+                None
+            }
         }
-        let Some(source) = self.registers.target(from) else {
-            return Some(Why::IndexOutOfRange);
-        };
-        let Some(sink) = self.registers.target(to) else {
-            return Some(Why::IndexOutOfRange);
-        };
-        if place_count(source) != place_count(sink) {
-            return Some(Why::SizesDiffer);
-        }
-        raise(&mut self.measured, source);
-        None
     }
 
     // Calls a gate.
@@ -228,29 +247,36 @@ impl<'a> Draft<'a> {
         &mut self,
         alloc: Global,
         gate: Builtin,
-        angles: usize,
-        turned: Turned,
-        arguments: &[Argument<'a>],
-        targets: &mut Vec<Target>,
+        angles: Option<Angles<'_>>,
+        arguments: Arguments<'_>,
     ) -> Result<Option<Why>, OutOfMemory>
         requires draft { IsDraft self.old }
-        requires named { (name : List ℕ) × (builtin name ≡ Some gate) }
-        ensures { IfOk result (λ why. outcome why self.new ≡ gate_on self.old gate angles turned arguments.now) }
+        requires named { (name : List ℕ) × (builtin name ≡ Some (seen_named gate)) }
+        ensures { IfOk result (λ why. (t : Taken) → Yields (Some (seen_named gate)) (listed angles.entry) t → outcome why self.new ≡ gate_on self.old (seen_named gate) (length (listed angles.entry)) t arguments.entry) }
     {
-        if any_unknown(&self.registers, arguments, true) {
+        let found = look_up(&self.registers, arguments);
+        if found.unknown {
             return Ok(Some(Why::UnknownRegister));
         }
-        if !resolve(&self.registers, arguments, targets)? {
+        if found.beyond {
             return Ok(Some(Why::IndexOutOfRange));
         }
-        if arguments.len() != gate.arity() || angles != gate.angle_count() {
+        let (angle, count) = first_angle(angles);
+        if !gate.has_counts(found.count, count) {
             return Ok(Some(Why::WrongCount));
         }
-        let count = self.gates.len() as u32;
-        match outcome_on(gate, turned, targets, &self.measured, count) {
+        let body = body_of(gate, angle);
+        let gates = self.gates.len() as u32;
+        match outcome_on(body, found.targets.as_slice(), &self.measured, gates) {
             Err(why) => Ok(Some(why)),
             Ok((kind, times)) => {
-                apply(alloc, kind, times, targets, &mut self.gates)?;
+                apply(
+                    alloc,
+                    kind,
+                    times,
+                    found.targets.as_slice(),
+                    &mut self.gates,
+                )?;
                 Ok(None)
             }
         }
@@ -260,46 +286,37 @@ impl<'a> Draft<'a> {
         &mut self,
         alloc: Global,
         name: &[u8],
-        angles: usize,
-        turned: Turned,
-        arguments: &[Argument<'a>],
-        targets: &mut Vec<Target>,
+        angles: Option<Angles<'_>>,
+        arguments: Arguments<'_>,
     ) -> Result<Option<Why>, OutOfMemory>
         requires { IsDraft self.old }
-        ensures { IfOk result (λ why. outcome why self.new ≡ call_on self.old (builtin name.now) angles turned arguments.now) }
+        ensures { IfOk result (λ why. (t : Taken) → Yields (builtin name.now) (listed angles.entry) t → outcome why self.new ≡ call_on self.old (builtin name.now) (length (listed angles.entry)) t arguments.entry) }
     {
         match gate_named(name) {
             None => Ok(Some(Why::UnknownName)),
-            Some(gate) => self.call_gate(alloc, gate, angles, turned, arguments, targets),
+            Some(gate) => self.call_gate(alloc, gate, angles, arguments),
         }
     }
 
-    /// Carries out a statement: its form, its arguments and its angles, one of which may be turned. Why it is refused, if it is.
+    /// Carries out a statement. Why it is refused, if it is.
     pub fn carry_out(
         &mut self,
         alloc: Global,
-        form: &Form<'a>,
-        arguments: &[Argument<'a>],
-        angles: &[Lexemes<'a>],
-        turned: Turned,
-        targets: &mut Vec<Target>,
+        form: Form<'a>,
         limit: u8,
     ) -> Result<Option<Why>, OutOfMemory>
         requires { IsDraft self.old }
-        ensures { IfOk result (λ why. (rest : List Lexeme) → outcome why self.new ≡ step limit self.old (shown form.now arguments.now angles.now rest) turned) }
+        ensures { IfOk result (λ why. (t : Taken) → Yields (called_in [] (shown form.entry)) (angles_of (shown form.entry)) t → outcome why self.new ≡ step limit self.old (shown form.entry) t) }
     {
         match form {
             Form::Version => Ok(None),
             Form::Include(text) => Ok(include(text)),
             Form::Qubits(name, size) => self.declare_qubits(name, size, limit),
             Form::Bits(name, size) => self.declare_bits(name, size),
-            Form::Barrier => self.barrier(arguments, targets),
-            Form::Measure(from, to) => Ok(self.measure(from, to)),
-            Form::Call(name) => self.call(alloc, name, 0, turned, arguments, targets),
-            Form::CallWith(name) => {
-                self.call(alloc, name, angles.len(), turned, arguments, targets)
-            }
-            Form::LeftOut(_) => Ok(Some(Why::OutOfProfile)),
+            Form::Barrier(arguments) => Ok(self.barrier(arguments)),
+            Form::Measure(from, to) => Ok(self.measure(&from, &to)),
+            Form::Call(name, angles, arguments) => self.call(alloc, name, angles, arguments),
+            Form::LeftOut(_, _) => Ok(Some(Why::OutOfProfile)),
         }
     }
 }

@@ -1,12 +1,6 @@
 //! Laws of the definitions, each the contract of a call that does nothing.
 ghost use Rattle.std.specs.Prelude.{◌≡◌, List, ℕ};
-ghost use Rattle.qasm_reader.specs.Statements.{Statement, Formed, written};
 ghost use Rattle.qasm_reader.specs.Reading.{Reading, ReadsAs};
-
-/// No two statements are written alike.
-pub fn statements_are_unambiguous()
-    ensures { (s t : Statement) → Formed s → Formed t → written s ≡ written t → s ≡ t }
-{}
 
 /// A text reads in one way: as one circuit, or by one refusal.
 pub fn one_reading()

@@ -4,21 +4,17 @@
 #![tactic(auto)]
 
 mod apply;
-mod argument;
 mod builtin;
 mod calls;
-mod digits;
 mod draft;
+mod hashing;
 mod laws;
-mod lexemes;
 mod reader;
 mod reason;
 mod registers;
-mod statement;
 mod targets;
-mod turn;
 
-pub use laws::{every_text_reads, one_reading, statements_are_unambiguous};
+pub use laws::{every_text_reads, one_reading};
 pub use reader::read;
 pub use reason::{ReadStop, Refusal, Why};
 

@@ -1,40 +1,32 @@
 //! Circuits read from texts.
-ghost use Rattle.std.specs.Prelude.{◌≡◌, ◌≢◌, ◌≤◌, ℕ, List, [], Some, length, IfOk, IfErr};
+ghost use Rattle.std.specs.Prelude.{◌≡◌, ◌≢◌, ◌≤◌, ℕ, List, [], false, length, IfOk, IfErr};
+ghost use Rattle.std.specs.List.{list_any};
+ghost use Rattle.std.specs.Str.{bytes_eq};
 ghost use Rattle.gate_set.specs.Circuits.{IsCircuit};
-ghost use Rattle.qasm_reader.specs.Lexemes.{Lexeme};
-ghost use Rattle.qasm_reader.specs.Statements.{Argument as Written, call};
-ghost use Rattle.qasm_reader.specs.Parts.{Part, last_part, parts_of};
+ghost use Rattle.qasm_forms.specs.declared.lexemes.Stop.TheVariants.{Semicolon};
+ghost use Rattle.qasm_forms.specs.Cutting.{begins_left, has_stop};
+ghost use Rattle.qasm_forms.specs.Shown.{shown};
 ghost use Rattle.qasm_reader.specs.Acts.{Act};
+ghost use Rattle.qasm_reader.specs.Profile.{leaves, words_left_out};
+ghost use Rattle.qasm_reader.specs.Parts.{Part, last_part, parts_of};
 ghost use Rattle.qasm_reader.specs.Reading.{Reading, ReadsAs, Reads, IfRefused, Says, circuit, refusal};
 ghost use Rattle.qasm_reader.specs.declared.reason.ReadStop.TheVariants.{Refused};
-ghost use Rattle.qasm_reader.specs.Parsing.{shown};
-ghost use Rattle.qasm_reader.specs.Tests.{AngleIs};
-ghost use Rattle.qasm_reader.specs.Drafts.{IsDraft, Follows, Concludes, Reached, closed_part, is_first, is_version, no_form};
+ghost use Rattle.qasm_reader.specs.Private.Drafts.{IsDraft, Follows, Concludes, Reached, ended_part, is_first, is_version, no_form};
 
-use crate::argument::Argument;
 use crate::draft::Draft;
-use crate::lexemes::{Lexemes, Stop};
+use crate::hashing::KeyedNames;
 use crate::reason::{ReadStop, Refusal, Why};
-use crate::registers::Target;
-use crate::statement::{Form, read_statement};
-use crate::turn::{Turned, turn_of};
 use bit_lists::OutOfMemory;
 use gate_set::Circuit;
-use qasm_lex::tokens;
+use qasm_forms::{Form, Lexemes, Stop, read_statement};
+use qasm_lex::{is_one_of, tokens};
 use std::alloc::Global;
-
-/// Lists that are filled anew for each statement, so that their memory serves all.
-#[derive(Drop)]
-struct Room<'a> {
-    arguments: Vec<Argument<'a>>,
-    angles: Vec<Lexemes<'a>>,
-    targets: Vec<Target>,
-}
 
 /// The circuit that a text of OpenQASM 2.0 reads as, or its refusal: the first reason of its first bad statement.
 ///
-/// A text may have 16,777,216 bytes, and a circuit as many qubits as the limit. The work is linear in the bytes and the gates, memory is in
-/// proportion to tokens and gates, and nothing recurses.
+/// A text may have 16,777,216 bytes, and a circuit as many qubits as the limit. The work is linear in the bytes and the gates, on average
+/// over the places that names take in a hash table, whose key is drawn from the text. Memory is in proportion to tokens, registers and
+/// gates; before a refusal the tokens take most of it, 12 bytes each. It recurses only within an angle, at most 64 tokens deep.
 pub fn read(alloc: Global, text: &[u8], limit: u8) -> Result<Circuit, ReadStop>
     requires short { length text.now ≤ 16777216 }
     requires few { limit ≤ 64 }
@@ -45,7 +37,8 @@ pub fn read(alloc: Global, text: &[u8], limit: u8) -> Result<Circuit, ReadStop>
 {
     let tokens = tokens(alloc, text)?;
     let mut lexemes = Lexemes::new(text, &tokens.list);
-    read_statements(alloc, &mut lexemes, tokens.bad, limit)
+    let names = KeyedNames::of_text(text);
+    read_statements(alloc, &mut lexemes, names, tokens.bad, limit)
 }
 
 fn refused(statement: u32, why: Why) -> ReadStop
@@ -58,6 +51,7 @@ fn refused(statement: u32, why: Why) -> ReadStop
 fn read_statements(
     alloc: Global,
     lexemes: &mut Lexemes<'_>,
+    names: KeyedNames,
     bad: Option<u32>,
     limit: u8,
 ) -> Result<Circuit, ReadStop>
@@ -70,19 +64,14 @@ fn read_statements(
     if lexemes.is_empty() && bad.is_none() {
         return Err(refused(0, Why::NoVersion));
     }
-    let mut draft = Draft::new(alloc);
-    let mut room = Room {
-        arguments: Vec::new(alloc),
-        angles: Vec::new(alloc),
-        targets: Vec::new(alloc),
-    };
+    let mut draft = Draft::new(alloc, names);
     let mut number = 1;
     'statements: loop {
         let (mut part, closed) = lexemes.cut(Stop::Semicolon);
         if !closed {
             return read_end(&part, bad, number, draft);
         }
-        let conclusion = follow(alloc, &mut part, number == 1, limit, &mut draft, &mut room)?;
+        let conclusion = follow(alloc, &mut part, number == 1, limit, &mut draft)?;
         if let Some(why) = conclusion {
             return Err(refused(number, why));
         }
@@ -98,7 +87,8 @@ fn read_end(
     number: u32,
     draft: Draft<'_>,
 ) -> Result<Circuit, ReadStop>
-    requires { IsDraft draft }
+    requires draft { IsDraft draft }
+    requires open { has_stop Semicolon rest.now ≡ false }
     ensures circuit { IfOk result (λ c. (limit : ℕ) (all : List Part) → all ≢ [] → Reached limit all (last_part rest.now bad) draft.entry number → Reads limit all (circuit c)) }
     ensures sound { IfOk result (λ c. IsCircuit c) }
     ensures refused { IfErr result (λ stop. IfRefused stop (λ r. (limit : ℕ) (all : List Part) → Reached limit all (last_part rest.now bad) draft.entry number → Reads limit all (refusal r.statement r.why))) }
@@ -125,7 +115,7 @@ fn no_form(first: bool) -> Why
 }
 
 fn is_version(form: &Form<'_>) -> bool
-    ensures { (arguments : List Written) (angles : List (List Lexeme)) (rest : List Lexeme) → result ≡ is_version (shown form.now arguments angles rest) }
+    ensures { result ≡ is_version (shown form.now) }
 {
     match form {
         Form::Version => true,
@@ -133,56 +123,47 @@ fn is_version(form: &Form<'_>) -> bool
     }
 }
 
-// What the angle of a call is, where it has one.
-fn turned(form: &Form<'_>, angles: &[Lexemes<'_>]) -> Turned
-    ensures { (arguments : List Written) (rest : List Lexeme) → AngleIs (shown form.now arguments angles.now rest) result }
+// Whether a word is one with which statements begin that are left out.
+fn is_left_out(first: &[u8]) -> bool
+    ensures { result ≡ list_any (bytes_eq first.now) words_left_out }
 {
-    match form {
-        Form::CallWith(_) => turn_of_one(angles),
-        _ => Turned::Quarters(0),
+    is_one_of(
+        first,
+        &[
+            b"gate", b"opaque", b"reset", b"if", b"U", b"CX", b"rz", b"u1", b"u2", b"u3", b"crz",
+            b"cu1", b"cu3", b"cy", b"ch",
+        ],
+    )
+}
+
+// Whether the statement is left out.
+fn begins_left(part: &Lexemes<'_>) -> bool
+    ensures { result ≡ begins_left (leaves []) part.now }
+{
+    match part.first_word() {
+        Some(first) => is_left_out(first),
+        None => false,
     }
 }
 
-fn turn_of_one(angles: &[Lexemes<'_>]) -> Turned
-    ensures { (name : List ℕ) (arguments : List Written) → AngleIs (call name (Some angles.now) arguments) result }
-{
-    match angles.split_first() {
-        Some((angle, more)) => if more.is_empty() {
-            turn_of(angle)
-        } else {
-            Turned::Quarters(0)
-        }
-        None => Turned::Quarters(0),
-    }
-}
-
-// Reads a statement that is closed and carries it out. Why it is refused, if it is.
+// Reads a statement, without its end, and carries it out. Why it is refused, if it is.
 fn follow<'a>(
     alloc: Global,
     part: &mut Lexemes<'a>,
     first: bool,
     limit: u8,
     draft: &mut Draft<'a>,
-    room: &mut Room<'a>,
 ) -> Result<Option<Why>, OutOfMemory>
     requires draft { IsDraft draft.old }
     requires few { limit ≤ 64 }
-    ensures { IfOk result (λ why. (before : List Act) → Follows limit before draft.old → first ≡ is_first before → Concludes limit before (closed_part part.old) why draft.new) }
+    ensures { IfOk result (λ why. (before : List Act) → Follows limit before draft.old → first ≡ is_first before → Concludes limit before (ended_part part.old) why draft.new) }
 {
-    let Some(form) = read_statement(part, &mut room.arguments, &mut room.angles)? else {
+    let left = begins_left(part);
+    let Some(form) = read_statement(part, left) else {
         return Ok(Some(no_form(first)));
     };
     if is_version(&form) != first {
         return Ok(Some(no_form(first)));
     }
-    let turned = turned(&form, &room.angles);
-    draft.carry_out(
-        alloc,
-        &form,
-        &room.arguments,
-        &room.angles,
-        turned,
-        &mut room.targets,
-        limit,
-    )
+    draft.carry_out(alloc, form, limit)
 }

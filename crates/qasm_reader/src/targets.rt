@@ -1,15 +1,15 @@
-//! What arguments mean, and the tests of a call on them.
-ghost use Rattle.std.specs.Prelude.{◌≡◌, ◌<◌, ◌≤◌, ◌+◌, ◌∷◌, [], map, IfOk, false};
+//! The tests of a call on what its arguments mean.
+ghost use Rattle.std.specs.Prelude.{◌≡◌, ◌<◌, ◌≤◌, ◌+◌, ◌∷◌, [], map, false};
 ghost use Rattle.std.specs.List.{list_any};
-ghost use Rattle.qasm_reader.specs.Acts.{register, target, targets, qubit_at, qubits_at, wholes, places, is_among, up_to};
-ghost use Rattle.qasm_reader.specs.Reasons.{is_unknown, is_beyond, differ, has_twice};
-ghost use Rattle.qasm_reader.specs.Scope.{other_than, repeats, flagged, touches};
+ghost use Rattle.qasm_reader.specs.Acts.{qubit_at, qubits_at, wholes, place_count, first_or_one, is_among, up_to};
+ghost use Rattle.qasm_reader.specs.Private.Seen.{seen_target, seen_targets};
+ghost use Rattle.qasm_reader.specs.Private.Scope.{other_than, differ, has_twice, repeats, flagged, touches};
 
 use crate::registers::Target;
 
 /// The qubit of an argument at a place.
 pub fn qubit_at(target: Target, place: u32) -> u64
-    ensures { result ≡ qubit_at place target }
+    ensures { result ≡ qubit_at place (seen_target target) }
 {
     match target.index {
         Some(index) => u64::from(target.register.first) + u64::from(index),
@@ -19,7 +19,7 @@ pub fn qubit_at(target: Target, place: u32) -> u64
 
 /// Whether the qubit is one of theirs at the place.
 fn has_qubit(targets: &[Target], place: u32, qubit: u64) -> bool
-    ensures { result ≡ is_among (qubits_at targets.now place) qubit }
+    ensures { result ≡ is_among (qubits_at (seen_targets targets.now) place) qubit }
 {
     let mut rest = targets;
     while let Some((target, after)) = rest.split_first() {
@@ -33,7 +33,7 @@ fn has_qubit(targets: &[Target], place: u32, qubit: u64) -> bool
 
 /// Whether they have a qubit twice at the place.
 pub fn has_twice(targets: &[Target], place: u32) -> bool
-    ensures { result ≡ has_twice (qubits_at targets.now place) }
+    ensures { result ≡ has_twice (qubits_at (seen_targets targets.now) place) }
 {
     let mut rest = targets;
     while let Some((target, after)) = rest.split_first() {
@@ -47,7 +47,7 @@ pub fn has_twice(targets: &[Target], place: u32) -> bool
 
 /// How many places they have together.
 pub fn places(targets: &[Target]) -> u32
-    ensures { result ≡ places (wholes targets.now) }
+    ensures { result ≡ place_count (seen_targets targets.now) }
 {
     let mut rest = targets;
     while let Some((target, after)) = rest.split_first() {
@@ -61,7 +61,7 @@ pub fn places(targets: &[Target]) -> u32
 
 /// Whether a whole register has another size.
 fn has_other_size(targets: &[Target], size: u32) -> bool
-    ensures { result ≡ list_any (other_than size) (wholes targets.now) }
+    ensures { result ≡ list_any (other_than size) (wholes (seen_targets targets.now)) }
 {
     let mut rest = targets;
     while let Some((target, after)) = rest.split_first() {
@@ -80,7 +80,7 @@ fn has_other_size(targets: &[Target], size: u32) -> bool
 
 /// Whether two whole registers among them differ in size.
 pub fn sizes_differ(targets: &[Target]) -> bool
-    ensures { result ≡ differ (wholes targets.now) }
+    ensures { result ≡ differ (wholes (seen_targets targets.now)) }
 {
     let mut rest = targets;
     while let Some((target, after)) = rest.split_first() {
@@ -94,7 +94,7 @@ pub fn sizes_differ(targets: &[Target]) -> bool
 
 /// Whether one of the repeated calls has a qubit twice.
 pub fn repeats(targets: &[Target]) -> bool
-    ensures { result ≡ repeats targets.now }
+    ensures { result ≡ repeats (seen_targets targets.now) }
 {
     for place in 0..places(targets) {
         if has_twice(targets, place) {
@@ -106,7 +106,7 @@ pub fn repeats(targets: &[Target]) -> bool
 
 // Whether one of their qubits at the place has a flag.
 fn touches_at(flags: &[bool], targets: &[Target], place: u32) -> bool
-    ensures { result ≡ list_any (flagged flags.now) (qubits_at targets.now place) }
+    ensures { result ≡ list_any (flagged flags.now) (qubits_at (seen_targets targets.now) place) }
 {
     let mut rest = targets;
     while let Some((target, after)) = rest.split_first() {
@@ -129,7 +129,7 @@ fn has_flag(flags: &[bool], qubit: u64) -> bool
 
 /// Whether one of the repeated calls has a qubit with a flag.
 pub fn touches(flags: &[bool], targets: &[Target]) -> bool
-    ensures { result ≡ touches flags.now targets.now }
+    ensures { result ≡ touches flags.now (seen_targets targets.now) }
 {
     for place in 0..places(targets) {
         if touches_at(flags, targets, place) {

@@ -1,5 +1,5 @@
 //! Texts with their circuits, and texts with their refusals.
-use crate::{ReadStop, Refusal, Why, one_reading, read, statements_are_unambiguous};
+use crate::{ReadStop, Refusal, Why, every_text_reads, one_reading, read};
 use bit_lists::OutOfMemory;
 use gate_set::Kind;
 use qasm_lex::AngleRefusal;
@@ -38,8 +38,8 @@ fn reads(rt: &HostRuntime, text: &[u8], qubits: u8, rows: &[Row], measured: &[bo
     same && circuit.measured() == measured
 }
 
-/// Each reason, first where no other one holds, and then where later ones in the table would hold of the statement too. Nothing is later than
-/// the last two, which have two cases each: the last one stands in the test of many gates.
+/// Each reason, first where no other one holds, and then where later ones in their order would hold of the statement too. Too many gates
+/// stand in a test of their own.
 static REFUSED: [(&[u8], u32, Why); 44] = [
     (b"OPENQASM 2.0;\nqreg q[1];\n@", 3, Why::BadByte(25)),
     (b"@", 1, Why::BadByte(0)),
@@ -170,7 +170,7 @@ static REFUSED: [(&[u8], u32, Why); 44] = [
 #[test]
 fn each_reason_in_its_place(rt: HostRuntime) {
     one_reading();
-    statements_are_unambiguous();
+    every_text_reads();
     for &(text, statement, why) in &REFUSED {
         assert_eq!(rt;
             refusal(&rt, text, 64),
@@ -228,15 +228,6 @@ fn long_angles(rt: HostRuntime) {
     let Ok(longest) = repeated(&rt, front, b"-", 61, b"pi/2) q[0];") else {
         panic!(rt; "no memory");
     };
-    assert!(rt;
-        reads(
-            &rt,
-            &longest,
-            1,
-            &[(Kind::RxM, &[0]), (Kind::RxM, &[0])],
-            &[false]
-        ) == false
-    );
     assert!(rt; reads(&rt, &longest, 1, &[(Kind::RxM, &[0])], &[false]));
     let Ok(longer) = repeated(&rt, front, b"-", 62, b"pi/2) q[0];") else {
         panic!(rt; "no memory");
@@ -278,42 +269,91 @@ fn places_in_turn(rt: HostRuntime) {
     assert!(rt; reads(&rt, text, 5, &rows, &[false, false, false, false, true]));
 }
 
-/// Quarter turns, forth up to a full turn and then back.
+/// Each name of a gate.
+#[test]
+fn every_name_reads(rt: HostRuntime) {
+    let text =
+        b"OPENQASM 2.0; qreg q[3]; id q[0]; x q[1]; y q[2]; z q[0]; h q[1]; s q[2]; sdg q[0]; t q[1]; tdg q[2]; rx(pi/2) q[0]; ry(pi/2) q[1]; cx q[0],q[2]; cz q[2],q[1]; swap q[1],q[0]; ccx q[2],q[0],q[1]; cswap q[1],q[2],q[0];";
+    let rows: [Row; 16] = [
+        (Kind::Id, &[0]),
+        (Kind::X, &[1]),
+        (Kind::Y, &[2]),
+        (Kind::Z, &[0]),
+        (Kind::H, &[1]),
+        (Kind::S, &[2]),
+        (Kind::Sdg, &[0]),
+        (Kind::T, &[1]),
+        (Kind::Tdg, &[2]),
+        (Kind::RxP, &[0]),
+        (Kind::RyP, &[1]),
+        (Kind::Cx, &[0, 2]),
+        (Kind::Cz, &[2, 1]),
+        (Kind::Swap, &[1, 0]),
+        (Kind::Ccx, &[2, 0, 1]),
+        (Kind::Cswap, &[1, 2, 0]),
+    ];
+    assert!(rt; reads(&rt, text, 3, &rows, &[false, false, false]));
+}
+
+/// Eight quarter turns about each axis: one identity, forth up to a full turn, and then back.
 #[test]
 fn quarter_turns(rt: HostRuntime) {
-    let table: [(&[u8], &[Row]); 7] = [
-        (b"OPENQASM 2.0; qreg q[1]; rx(0) q[0];", &[(Kind::Id, &[0])]),
-        (
-            b"OPENQASM 2.0; qreg q[1]; ry(4*pi) q[0];",
-            &[(Kind::Id, &[0])],
-        ),
-        (
-            b"OPENQASM 2.0; qreg q[1]; rx(2*pi/4) q[0];",
-            &[(Kind::RxP, &[0])],
-        ),
-        (
-            b"OPENQASM 2.0; qreg q[1]; ry(pi) q;",
-            &[(Kind::RyP, &[0]), (Kind::RyP, &[0])],
-        ),
-        (
-            b"OPENQASM 2.0; qreg q[1]; rx(-pi/2) q[0];",
-            &[(Kind::RxM, &[0])],
-        ),
-        (
-            b"OPENQASM 2.0; qreg q[1]; ry(-3*pi/2) q[0];",
-            &[(Kind::RyM, &[0]), (Kind::RyM, &[0]), (Kind::RyM, &[0])],
-        ),
-        (
-            b"OPENQASM 2.0; qreg q[1]; ry(-(pi + 3*pi)/2) q[0];",
-            &[
-                (Kind::RyP, &[0]),
-                (Kind::RyP, &[0]),
-                (Kind::RyP, &[0]),
-                (Kind::RyP, &[0]),
-            ],
-        ),
+    let table: [(&[u8], u8, bool); 9] = [
+        (b"0", 1, true),
+        (b"2*pi/4", 1, true),
+        (b"pi", 2, true),
+        (b"3*pi/2", 3, true),
+        (b"-(pi + 3*pi)/2", 4, true),
+        (b"-3*pi/2", 3, false),
+        (b"3*pi", 2, false),
+        (b"-pi/2", 1, false),
+        (b"4*pi", 1, true),
     ];
-    for (text, rows) in table {
-        assert!(rt; reads(&rt, text, 1, rows, &[false]));
+    for (angle, times, forth) in table {
+        assert!(rt; turns(&rt, b"rx(", angle, times, (Kind::RxP, Kind::RxM), forth));
+        assert!(rt; turns(&rt, b"ry(", angle, times, (Kind::RyP, Kind::RyM), forth));
     }
+}
+
+/// Whether a turn by the angle is done by so many gates, forth or back. A turn of none is the identity.
+fn turns(
+    rt: &HostRuntime,
+    gate: &[u8],
+    angle: &[u8],
+    times: u8,
+    kinds: (Kind, Kind),
+    forth: bool,
+) -> bool {
+    let Ok(text) = call_of(rt, gate, angle) else {
+        return false;
+    };
+    if text.len() > 16_777_216 {
+        return false;
+    }
+    let Ok(circuit) = read(rt.alloc(), &text, 64) else {
+        return false;
+    };
+    let kind = if angle == b"0".as_slice() || angle == b"4*pi".as_slice() {
+        Kind::Id
+    } else if forth {
+        kinds.0
+    } else {
+        kinds.1
+    };
+    let gates = circuit.gates();
+    let mut same = gates.len() == usize::from(times);
+    for gate in gates {
+        same = same && gate.kind() == kind;
+    }
+    same
+}
+
+/// A text with one call, of this front and this angle.
+fn call_of(rt: &HostRuntime, gate: &[u8], angle: &[u8]) -> Result<Vec<u8>, OutOfMemory> {
+    let mut text = Vec::new(rt.alloc());
+    text.extend_from_slice(b"OPENQASM 2.0; qreg q[1]; ")?;
+    text.extend_from_slice(gate)?;
+    text.extend_from_slice(angle)?;
+    text.extend_from_slice(b") q;")?;
+    Ok(text)
 }

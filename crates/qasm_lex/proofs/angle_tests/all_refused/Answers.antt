@@ -1,9 +1,10 @@
-use Rattle.std.proofs.Common.{rules}
-use Rattle.qasm_lex.specs.Lexemes.{AreOfText}
-use Rattle.qasm_lex.proofs.TextTokens.{range_of_text}
+use Rattle.std.proofs.Common.{rules, ◌-◌, drop, All}
+use Rattle.std.proofs.lemmas.List.Elements.{All-take, All-drop}
+use Rattle.qasm_lex.specs.Lexemes.{IsWithin}
 use Rattle.qasm_lex.proofs.angle_tests.all_refused.Goals as goal
 
 pub angle-requires : goal.angle-requires
 angle-requires c =
-    let all : AreOfText c.args.text.now c.as_slice-list.result.now = search rules in
-    range_of_text c.args.text.now c.as_slice-list.result.now c.loop-to.from c.loop-to.to c.loop-to.invariant.order all
+    let list = c.as_slice-list.result.now in
+    let all : All (IsWithin c.args.text.now) list = search rules in
+    All-take (IsWithin c.args.text.now) (c.loop-to.to - c.loop-to.from) (drop c.loop-to.from list) (All-drop (IsWithin c.args.text.now) c.loop-to.from list all)

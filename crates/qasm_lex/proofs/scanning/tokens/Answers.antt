@@ -1,13 +1,13 @@
 use Rattle.std.proofs.Common.{◌+◌, Some, None, refl, arith, sym, drop, subst}
 use Rattle.qasm_lex.specs.Lexemes.{Begins, Ends}
 use Rattle.qasm_lex.proofs.Cuts.{Done, done_ends, tokens_same, done_token, done_gap}
-use Rattle.qasm_lex.proofs.TextTokens.{whole_of_text}
+use Rattle.qasm_lex.proofs.AngleLemmas.{tokens_within}
 use Rattle.qasm_lex.proofs.scanning.tokens.Goals as goal
 
 pub returns-in_default-clause-of_text : goal.returns-in_default-clause-of_text
 returns-in_default-clause-of_text c =
     let ends : Ends c.args.text.now c.loop-place.place (Some c.loop-place.place) = (refl, c.loop-place-test.true, c.in_default.ensures.none) in
-    whole_of_text c.args.text.now c.loop-place.list.items (Some c.loop-place.place)
+    tokens_within c.args.text.now c.loop-place.list.items (Some c.loop-place.place)
     (done_ends c.args.text.now c.loop-place.place c.loop-place.list.items (Some c.loop-place.place) c.loop-place.invariant ends)
 
 pub returns-in_default-clause-only : goal.returns-in_default-clause-only
@@ -29,7 +29,7 @@ pub returns-clause-of_text : goal.returns-clause-of_text
 returns-clause-of_text c =
     let h = c.loop-place.invariant.within in
     let ends : Ends c.args.text.now c.loop-place.place None = omega arith in
-    whole_of_text c.args.text.now c.loop-place.list.items None
+    tokens_within c.args.text.now c.loop-place.list.items None
     (done_ends c.args.text.now c.loop-place.place c.loop-place.list.items None c.loop-place.invariant ends)
 
 pub returns-clause-only : goal.returns-clause-only

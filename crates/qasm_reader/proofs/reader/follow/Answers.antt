@@ -1,47 +1,39 @@
-use Rattle.std.proofs.Common.{◌≡◌, ◌∙◌, sym, ap, subst, rules}
-use Rattle.qasm_reader.specs.Statements.{Formed, written}
-use Rattle.qasm_reader.specs.Reasons.{Refuses}
-use Rattle.qasm_reader.specs.Parsing.{shown}
-use Rattle.qasm_reader.specs.Tests.{AngleIs}
-use Rattle.qasm_reader.specs.Drafts.{closed_part, step}
-use Rattle.qasm_reader.proofs.Following.{no_statement, out_of_place, carried_out, none_shown, some_shown, differs, agrees}
+use Rattle.std.proofs.Common.{◌≡◌, ◌∙◌, sym, subst}
+use Rattle.qasm_forms.specs.Statements.{IsStatement, ended, written}
+use Rattle.qasm_forms.specs.Shown.{shown}
+use Rattle.qasm_reader.specs.Profile.{leaves}
+use Rattle.qasm_reader.specs.Reasons.{Refuses, angles_of, called_in}
+use Rattle.qasm_reader.specs.Private.Tests.{Yields}
+use Rattle.qasm_reader.specs.Private.Drafts.{ended_part}
+use Rattle.qasm_reader.proofs.Following.{no_statement, out_of_place, carried_out, none_shown, some_shown, same_called, differs, agrees}
+use Rattle.qasm_reader.proofs.Yielding.{every_yield}
 use Rattle.qasm_reader.proofs.Facts.{if_ok}
 use Rattle.qasm_reader.proofs.reader.follow.Goals as goal
 
 pub returns-in_default : goal.returns-in_default
 returns-in_default c before f e =
-    subst (Refuses c.args.limit before (closed_part c.args.part.now)) (sym c.no_form.ensures)
+    subst (Refuses c.args.limit before (ended_part c.args.part.now)) (sym c.no_form.ensures)
     (no_statement c.args.limit before c.args.part.now c.args.first e
-    (λ s g w. none_shown c.in_ok-form.field-0 c.read_statement.new.arguments.items c.read_statement.new.angles.items c.read_statement.new.lexemes s c.in_default.is (c.in_ok-form.ensures.only s g w)))
+    (λ s g w. none_shown c.read_statement.result s c.in_default.is (c.read_statement.ensures.only (leaves before) s c.begins_left-left.ensures g w)))
 
 pub returns-then-is_version-first : goal.returns-then-is_version-first
 returns-then-is_version-first c before f e =
-    let all = c.read_statement.new.arguments.items in
-    let angles = c.read_statement.new.angles.items in
-    let rest = c.read_statement.new.lexemes in
-    let s = shown c.in-Some.form all angles rest in
-    let r = some_shown c.in_ok-form.field-0 c.in-Some.form all angles rest (λ s. Formed s × (c.args.part.now ≡ written s)) c.in-Some.is c.in_ok-form.ensures.found in
-    let v = c.is_version.ensures all angles rest in
+    let s = shown c.in-Some.form in
+    let r = some_shown c.read_statement.result c.in-Some.form (λ form. IsStatement (leaves before) (shown form) × (ended c.args.part.now ≡ written (shown form))) c.in-Some.is
+    (c.read_statement.ensures.found (leaves before) c.begins_left-left.ensures) in
     let n = differs c.is_version.result c.args.first c.if-is_version-first.true in
-    subst (Refuses c.args.limit before (closed_part c.args.part.now)) (sym c.no_form-then-is_version-first.ensures)
-    (out_of_place c.args.limit before c.args.part.now s c.args.first e r.0 r.1 (λ q. n (v ∙ q)))
+    subst (Refuses c.args.limit before (ended_part c.args.part.now)) (sym c.no_form-then-is_version-first.ensures)
+    (out_of_place c.args.limit before c.args.part.now s c.args.first e r.0 r.1 (λ q. n (c.is_version.ensures ∙ q)))
 
 pub returns : goal.returns
 returns c =
-    let all = c.read_statement.new.arguments.items in
-    let angles = c.read_statement.new.angles.items in
-    let rest = c.read_statement.new.lexemes in
-    let s = shown c.in-Some.form all angles rest in
-    let r = some_shown c.in_ok-form.field-0 c.in-Some.form all angles rest (λ s. Formed s × (c.args.part.now ≡ written s)) c.in-Some.is c.in_ok-form.ensures.found in
-    let v = c.is_version.ensures all angles rest in
+    let s = shown c.in-Some.form in
     let same = agrees c.is_version.result c.args.first c.if-is_version-first.false in
-    let same_all : c.deref-2.result.now ≡ all = search rules in
-    let same_angles : c.deref-3.result.now ≡ angles = search rules in
-    let turned_angles : c.deref.result.now ≡ angles = search rules in
-    let t : AngleIs s c.turned-turned.result = subst (λ a. AngleIs (shown c.in-Some.form all a rest) c.turned-turned.result) turned_angles (c.turned-turned.ensures all rest) in
     if_ok c.carry_out.result _ _
     (λ why h before f e.
-    (carried_out c.args.limit before c.args.part.now c.requires.few c.args.draft.now f s c.turned-turned.result c.args.first e (sym v ∙ same) r.0 r.1 t why c.carry_out.new.self
-    (h rest ∙ ap (λ a. step c.args.limit c.args.draft.now (shown c.in-Some.form a c.deref-3.result.now rest) c.turned-turned.result) same_all
-    ∙ ap (λ a. step c.args.limit c.args.draft.now (shown c.in-Some.form all a rest) c.turned-turned.result) same_angles)))
+    (let r = some_shown c.read_statement.result c.in-Some.form (λ form. IsStatement (leaves before) (shown form) × (ended c.args.part.now ≡ written (shown form))) c.in-Some.is
+    (c.read_statement.ensures.found (leaves before) c.begins_left-left.ensures) in
+    let y = every_yield (called_in before s) (angles_of s) in
+    carried_out c.args.limit before c.args.part.now c.requires.few c.args.draft.now f s y.0 c.args.first e (sym c.is_version.ensures ∙ same) r.0 r.1 y.1 why c.carry_out.new.self
+    (h y.0 (subst (λ x. Yields x (angles_of s) y.0) (same_called before s) y.1))))
     c.carry_out.ensures

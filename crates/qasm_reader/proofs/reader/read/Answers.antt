@@ -1,7 +1,7 @@
 use Rattle.std.proofs.Common.{◌≡◌, ◌∙◌, sym, ap, subst, arith, ◌≤◌, length}
 use Rattle.std.proofs.lemmas.List.{length-map}
 use Rattle.qasm_lex.proofs.Counts.{tokens_few}
-use Rattle.qasm_reader.specs.Lexemes.{lexemes_of}
+use Rattle.qasm_lex.specs.Lexemes.{lexemes_of}
 use Rattle.qasm_reader.specs.Parts.{parts_of}
 use Rattle.qasm_reader.specs.Reading.{Reads}
 use Rattle.qasm_reader.proofs.OneReading.{says_one}

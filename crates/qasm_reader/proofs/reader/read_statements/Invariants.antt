@@ -1,6 +1,6 @@
 use Rattle.std.proofs.Common.{◌≢◌, ◌≤◌, ◌+◌, [], length}
 use Rattle.qasm_reader.specs.Parts.{parts_of}
-use Rattle.qasm_reader.specs.Drafts.{Reached}
+use Rattle.qasm_reader.specs.Private.Drafts.{Reached}
 use Rattle.qasm_reader.proofs.reader.read_statements.Given as goal
 
 -- the statements so far are accepted; each has at least the lexeme that closes it

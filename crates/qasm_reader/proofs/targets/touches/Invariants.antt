@@ -1,8 +1,9 @@
 use Rattle.std.proofs.Common.{◌≡◌, false}
 use Rattle.std.specs.List.{list_any}
+use Rattle.qasm_reader.specs.Private.Seen.{seen_targets}
 use Rattle.qasm_reader.specs.Acts.{qubits_at, up_to}
-use Rattle.qasm_reader.specs.Scope.{flagged}
+use Rattle.qasm_reader.specs.Private.Scope.{flagged}
 use Rattle.qasm_reader.proofs.targets.touches.Given as goal
 
 abbrev pub invariant-loop-place : goal.invariant-loop-place
-invariant-loop-place l = list_any (λ place. list_any (flagged l.flags) (qubits_at l.targets place)) (up_to l.place) ≡ false
+invariant-loop-place l = list_any (λ place. list_any (flagged l.flags) (qubits_at (seen_targets l.targets) place)) (up_to l.place) ≡ false

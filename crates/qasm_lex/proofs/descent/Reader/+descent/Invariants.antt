@@ -1,5 +1,5 @@
 use Rattle.std.proofs.Common.{◌≡◌, ◌<◌, ◌+◌, ◌*◌, length}
-use Rattle.qasm_lex.specs.Descent.{expr, term, terms, factors, parsed}
+use Rattle.qasm_lex.specs.Private.Descent.{expr, term, terms, factors, parsed}
 use Rattle.qasm_lex.proofs.descent.Reader.+descent.Given as goal
 
 abbrev pub decreases-atom : goal.decreases-atom

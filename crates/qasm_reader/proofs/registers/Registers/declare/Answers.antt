@@ -1,18 +1,29 @@
-use Rattle.std.proofs.Common.{◌≡◌, ◌∙◌, ap, refl, ℕ, nat_eq, List, [], ◌∷◌, ◌++◌, map, None}
+use Rattle.std.proofs.Common.{◌≡◌, ◌∙◌, sym, ap, rules, refl, ℕ, nat_eq, not, is_some, List, [], ◌∷◌, ◌++◌, map, None}
 use Rattle.std.specs.Borrow.{Bor}
 use Rattle.std.specs.Map.{lookup}
 use lib.Pointwise.{pointwise}
 use Rattle.std.proofs.lemmas.Map.Text.{hash_map_str_same}
 use Rattle.indexmap.proofs.CallerLemmas.{insert_entry-new}
 use Rattle.qasm_reader.specs.Acts.{register}
-use Rattle.qasm_reader.specs.Scope.{named}
-use Rattle.qasm_reader.proofs.Names.{lookup_named, named_append}
+use Rattle.qasm_reader.specs.Private.Seen.{seen_register, seen_row, entry_of}
+use Rattle.qasm_reader.proofs.Names.{lookup_named, named_append, row_there, no_row}
 use Rattle.qasm_reader.proofs.registers.Registers.declare.Goals as goal
 
-pub returns-clause-ok : goal.returns-clause-ok
-returns-clause-ok c =
+-- the row of the name before
+found : (c : goal.After-is_none) → seen_row (lookup (λ (k : Bor (List ℕ)). pointwise nat_eq c.args.name.now k.now) c.self.inside.places.entries) ≡ register c.args.self.now c.args.name.now
+found c =
+    ap seen_row (hash_map_str_same c.args.name c.args.name.now c.self.inside.places.entries refl).0
+    ∙ lookup_named c.args.name.now c.self.inside.places.entries ∙ ap (λ r. register r c.args.name.now) c.self.view_is
+
+pub returns-clause-new : goal.returns-clause-new
+returns-clause-new c =
+    let e : c.is_none.result ≡ not (is_some c.in_ok-before.before) = search rules in
+    e ∙ ap (λ x. not (is_some x)) c.in_ok-before.ensures.old ∙ ap not (sym (row_there _)) ∙ ap (λ x. not (is_some x)) (found c)
+
+pub returns-clause-declared : goal.returns-clause-declared
+returns-clause-declared c h =
+    let e : c.is_none.result ≡ not (is_some c.in_ok-before.before) = search rules in
     let none : lookup (λ (k : Bor (List ℕ)). pointwise nat_eq c.args.name.now k.now) c.self.inside.places.entries ≡ None =
-    (hash_map_str_same c.args.name c.args.name.now c.self.inside.places.entries refl).0
-    ∙ lookup_named c.args.name.now c.self.inside.places.entries ∙ ap (λ r. register r c.args.name.now) c.self.view_is ∙ c.requires in
-    ap (map named) (c.in_ok-insert.ensures.entries ∙ insert_entry-new (λ (a b : Bor (List ℕ)). pointwise nat_eq a.now b.now) c.self.inside.places c.args.name c.args.place none)
-    ∙ named_append c.self.inside.places.entries (c.args.name, c.args.place) ∙ ap (λ r. r ++ (c.args.name.now, c.args.place) ∷ []) c.self.view_is
+    no_row _ (sym (e ∙ ap (λ x. not (is_some x)) c.in_ok-before.ensures.old) ∙ h) in
+    ap (map entry_of) (c.in_ok-before.ensures.entries ∙ insert_entry-new (λ (a b : Bor (List ℕ)). pointwise nat_eq a.now b.now) c.self.inside.places c.args.name c.args.place none)
+    ∙ named_append c.self.inside.places.entries (c.args.name, c.args.place) ∙ ap (λ r. r ++ (c.args.name.now, seen_register c.args.place) ∷ []) c.self.view_is

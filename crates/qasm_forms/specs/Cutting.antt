@@ -1,0 +1,48 @@
+-- Words of the calls on lexemes: their front, and what stands before and after a separator.
+use Rattle.std.specs.Prelude.{ℕ, Bool, true, false, cond, List, [], ◌∷◌, Option, Some, None}
+use Rattle.std.specs.Borrow.{Bor}
+use Rattle.qasm_lex.specs.Characters.{semicolon, comma}
+use Rattle.qasm_lex.specs.Lexemes.{Lexeme, word, arrow}
+use Rattle.qasm_forms.specs.declared.lexemes.Stop.{Stop}
+use Rattle.qasm_forms.specs.declared.lexemes.Stop.TheVariants.{Semicolon, Comma, To}
+use Rattle.qasm_forms.specs.Statements.{is_mark}
+
+-- bytes, if there are some
+abbrev pub seen_bytes : Option (Bor (List ℕ)) → Option (List ℕ)
+seen_bytes None = None
+seen_bytes (Some b) = Some b.now
+
+-- whether none are left
+abbrev pub is_nothing : List Lexeme → Bool
+is_nothing [] = true
+is_nothing (l ∷ ls) = false
+
+-- whether the first lexeme is a word that is left out
+abbrev pub begins_left : (List ℕ → Bool) → List Lexeme → Bool
+begins_left leaves (word bytes ∷ ls) = leaves bytes
+begins_left leaves _ = false
+
+-- the word that is first
+abbrev pub word_at : List Lexeme → Option (List ℕ)
+word_at (word bytes ∷ ls) = Some bytes
+word_at _ = None
+
+-- what separates lexemes
+abbrev pub is_stop : Stop → Lexeme → Bool
+is_stop Semicolon l = is_mark semicolon l
+is_stop Comma l = is_mark comma l
+is_stop To arrow = true
+is_stop To _ = false
+
+-- the lexemes before the first separator, whether there is one, and those after it
+abbrev pub before_stop : Stop → List Lexeme → List Lexeme
+before_stop stop [] = []
+before_stop stop (l ∷ ls) = cond (is_stop stop l) [] (l ∷ before_stop stop ls)
+
+abbrev pub has_stop : Stop → List Lexeme → Bool
+has_stop stop [] = false
+has_stop stop (l ∷ ls) = cond (is_stop stop l) true (has_stop stop ls)
+
+abbrev pub after_stop : Stop → List Lexeme → List Lexeme
+after_stop stop [] = []
+after_stop stop (l ∷ ls) = cond (is_stop stop l) ls (after_stop stop ls)

@@ -1,0 +1,4 @@
+pub mod Statements
+pub mod Cutting
+pub mod Shown
+pub mod Private

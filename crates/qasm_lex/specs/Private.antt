@@ -1,0 +1,3 @@
+-- Words that only the clauses of private functions and lemmas cite: a user of the crate may skip this folder.
+pub mod Scan
+pub mod Descent

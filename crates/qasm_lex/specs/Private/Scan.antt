@@ -1,0 +1,126 @@
+-- What the private functions that find the next piece return.
+use Rattle.std.specs.Prelude.{ℕ, ◌+◌, Bool, true, false, cond, List, [], ◌∷◌, Option, Some, None, drop, nat_eq}
+use Rattle.qasm_lex.specs.declared.bytes.Class.{Class}
+use Rattle.qasm_lex.specs.declared.bytes.Class.TheVariants.{Letter, LetterE, Digit, Underscore, Point, Quote, Plus, Minus, Greater, Equals, Slash, LineFeed, Blank as BlankClass, Mark as MarkClass, Other}
+use Rattle.qasm_lex.specs.declared.bytes.Part.{Part}
+use Rattle.qasm_lex.specs.declared.bytes.Part.TheVariants.{Words, Digits, Quoted, Commented}
+use Rattle.qasm_lex.specs.declared.token.TokenKind.TheVariants.{Word, Whole, Real, Text, Arrow, Equal, Mark}
+use Rattle.qasm_lex.specs.declared.pieces.Form.{Form}
+use Rattle.qasm_lex.specs.declared.pieces.Form.TheVariants.{Blank, Comment, Token}
+use Rattle.qasm_lex.specs.Bytes.{class_of, in_part, is_sign}
+
+-- `e` and `E`
+abbrev pub is_e : Class → Bool
+is_e LetterE = true
+is_e _ = false
+
+-- the point
+abbrev pub is_point : Class → Bool
+is_point Point = true
+is_point _ = false
+
+-- the quote
+abbrev pub is_quote : Class → Bool
+is_quote Quote = true
+is_quote _ = false
+
+-- `>`
+abbrev pub is_greater : Class → Bool
+is_greater Greater = true
+is_greater _ = false
+
+-- `=`
+abbrev pub is_equals : Class → Bool
+is_equals Equals = true
+is_equals _ = false
+
+-- `/`
+abbrev pub is_slash : Class → Bool
+is_slash Slash = true
+is_slash _ = false
+
+-- how many bytes at the front are in the part
+unfoldable pub run : Part → List ℕ → ℕ
+run part [] = 0
+run part (b ∷ bs) = cond (in_part part (class_of b)) (run part bs + 1) 0
+
+-- how many bytes at the front are a sign, 1 or 0
+unfoldable pub sign : List ℕ → ℕ
+sign [] = 0
+sign (b ∷ bs) = cond (is_sign (class_of b)) 1 0
+
+-- how many bytes at the front are an exponent, or 0
+unfoldable pub exponent : List ℕ → ℕ
+exponent [] = 0
+exponent (b ∷ after) =
+    cond (is_e (class_of b))
+    (let digits = run Digits (drop (sign after) after) in cond (nat_eq digits 0) 0 (1 + sign after + digits))
+    0
+
+-- a number of so many digits, from after its point
+abbrev pub with_point : ℕ → List ℕ → Option (Form × ℕ)
+with_point whole after =
+    let digits = run Digits after in
+    cond (nat_eq (whole + digits) 0) None (Some (Token Real, whole + 1 + digits + exponent (drop digits after)))
+
+-- a number of so many digits with no point
+abbrev pub without_point : ℕ → List ℕ → Option (Form × ℕ)
+without_point whole after =
+    let more = exponent after in
+    cond (nat_eq more 0) (Some (Token Whole, whole)) (Some (Token Real, whole + more))
+
+-- a number of so many digits, from after them
+abbrev pub at_point : ℕ → List ℕ → Option (Form × ℕ)
+at_point whole [] = without_point whole []
+at_point whole (b ∷ after) = cond (is_point (class_of b)) (with_point whole after) (without_point whole (b ∷ after))
+
+-- a number
+unfoldable pub number : List ℕ → Option (Form × ℕ)
+number bs = at_point (run Digits bs) (drop (run Digits bs) bs)
+
+-- a text of so many bytes, from its closing quote
+abbrev pub closed : ℕ → List ℕ → Option (Form × ℕ)
+closed n [] = None
+closed n (b ∷ after) = cond (is_quote (class_of b)) (Some (Token Text, n + 2)) None
+
+-- a text, from after its quote
+unfoldable pub quoted : List ℕ → Option (Form × ℕ)
+quoted after = closed (run Quoted after) (drop (run Quoted after) after)
+
+-- an arrow or a mark, from after the minus
+abbrev pub after_minus : List ℕ → ℕ → Option (Form × ℕ)
+after_minus [] b = Some (Token (Mark b), 1)
+after_minus (c ∷ after) b = cond (is_greater (class_of c)) (Some (Token Arrow, 2)) (Some (Token (Mark b), 1))
+
+-- a double equals sign, from after the first
+abbrev pub after_equals : List ℕ → Option (Form × ℕ)
+after_equals [] = None
+after_equals (c ∷ after) = cond (is_equals (class_of c)) (Some (Token Equal, 2)) None
+
+-- a comment or a mark, from after the slash
+abbrev pub after_slash : List ℕ → ℕ → Option (Form × ℕ)
+after_slash [] b = Some (Token (Mark b), 1)
+after_slash (c ∷ after) b = cond (is_slash (class_of c)) (Some (Comment, run Commented after + 2)) (Some (Token (Mark b), 1))
+
+-- the piece that begins with a byte of this class
+abbrev pub piece_at : Class → ℕ → List ℕ → Option (Form × ℕ)
+piece_at Letter b after = Some (Token Word, run Words after + 1)
+piece_at LetterE b after = Some (Token Word, run Words after + 1)
+piece_at Digit b after = number (b ∷ after)
+piece_at Point b after = number (b ∷ after)
+piece_at Quote b after = quoted after
+piece_at Plus b after = Some (Token (Mark b), 1)
+piece_at Minus b after = after_minus after b
+piece_at Equals b after = after_equals after
+piece_at Slash b after = after_slash after b
+piece_at LineFeed b after = Some (Blank, 1)
+piece_at BlankClass b after = Some (Blank, 1)
+piece_at MarkClass b after = Some (Token (Mark b), 1)
+piece_at Underscore b after = None
+piece_at Greater b after = None
+piece_at Other b after = None
+
+-- the form and the length of the piece at the front
+unfoldable pub piece_of : List ℕ → Option (Form × ℕ)
+piece_of [] = None
+piece_of (b ∷ bs) = piece_at (class_of b) b bs

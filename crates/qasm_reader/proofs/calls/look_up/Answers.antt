@@ -1,0 +1,29 @@
+use Rattle.std.proofs.Common.{◌≡◌, ◌∙◌, ◌+◌, sym, ap, arith, Some, length}
+use Rattle.qasm_reader.specs.Private.Scope.{Found, seen_found, nothing_found, look, capped}
+use Rattle.qasm_reader.proofs.Looking.{look_unknown, look_beyond, look_count, all_targets}
+use Rattle.qasm_reader.proofs.calls.look_up.Goals as goal
+
+pub returns-clause-unknown : goal.returns-clause-unknown
+returns-clause-unknown c =
+    let e : seen_found c.loop-argument.found ≡ look c.args.registers.now nothing_found c.args.arguments =
+    sym (c.loop-argument.invariant.looked ∙ ap (look c.args.registers.now (seen_found c.loop-argument.found)) c.in_default.ensures.0) in
+    ap (λ (f : Found). f.unknown) e ∙ look_unknown c.args.registers.now nothing_found c.args.arguments
+
+pub returns-clause-beyond : goal.returns-clause-beyond
+returns-clause-beyond c u =
+    let e : seen_found c.loop-argument.found ≡ look c.args.registers.now nothing_found c.args.arguments =
+    sym (c.loop-argument.invariant.looked ∙ ap (look c.args.registers.now (seen_found c.loop-argument.found)) c.in_default.ensures.0) in
+    ap (λ (f : Found). f.beyond) e ∙ look_beyond c.args.registers.now nothing_found c.args.arguments (sym (returns-clause-unknown c) ∙ u)
+
+pub returns-clause-count : goal.returns-clause-count
+returns-clause-count c =
+    let e : seen_found c.loop-argument.found ≡ look c.args.registers.now nothing_found c.args.arguments =
+    sym (c.loop-argument.invariant.looked ∙ ap (look c.args.registers.now (seen_found c.loop-argument.found)) c.in_default.ensures.0) in
+    let none : 0 + length c.args.arguments ≡ length c.args.arguments = omega arith in
+    ap (λ (f : Found). f.count) e ∙ look_count c.args.registers.now nothing_found c.args.arguments (omega arith) ∙ ap (capped 4) none
+
+pub returns-clause-means : goal.returns-clause-means
+returns-clause-means c u b h =
+    let e : seen_found c.loop-argument.found ≡ look c.args.registers.now nothing_found c.args.arguments =
+    sym (c.loop-argument.invariant.looked ∙ ap (look c.args.registers.now (seen_found c.loop-argument.found)) c.in_default.ensures.0) in
+    all_targets c.args.registers.now c.args.arguments (sym (returns-clause-unknown c) ∙ u) (sym (returns-clause-beyond c u) ∙ b) h ∙ ap (λ (f : Found). Some f.targets) (sym e)

@@ -1,0 +1,106 @@
+-- What the reader knows at a statement, and its tests there.
+use Rattle.std.specs.List.{list_any}
+use Rattle.std.specs.Prelude.{not, get_or, ℕ, ◌+◌, ◌*◌, Bool, true, false, ◌||◌, cond, nat_lt, nat_le, nat_eq, List, [], ◌∷◌, ◌++◌, length, replicate, Option, Some, None, Result, Ok, Err}
+use Rattle.gate_set.specs.declared.kind.Kind.{Kind}
+use Rattle.qasm_forms.specs.Statements.{Argument}
+use Rattle.qasm_reader.specs.declared.registers.Miss.{Miss}
+use Rattle.qasm_reader.specs.declared.registers.Miss.TheVariants.{Unknown, Beyond}
+use Rattle.qasm_reader.specs.declared.calls.Found.{Found as CodeFound}
+use Rattle.qasm_reader.specs.declared.reason.Why.{Why}
+use Rattle.qasm_reader.specs.declared.reason.Why.TheVariants.{UnknownRegister, IndexOutOfRange, SizesDiffer, RepeatedQubit, Measured, TooManyGates}
+use Rattle.qasm_reader.specs.Acts.{Register, Target, Item, register, index_of, place_in, wholes, place_count, qubits_at, up_to, is_among}
+use Rattle.qasm_reader.specs.Calls.{one}
+use Rattle.qasm_reader.specs.Reasons.{same_sort}
+use Rattle.qasm_reader.specs.Private.Seen.{seen_targets}
+
+abbrev pub placed_at : Register → Option ℕ → Result Target Miss
+placed_at r None = Ok (place_in r None)
+placed_at r (Some i) = cond (nat_le r.size i) (Err Beyond) (Ok (place_in r (Some i)))
+
+abbrev pub find_in : Option Register → Bool → Option ℕ → Result Target Miss
+find_in None quantum index = Err Unknown
+find_in (Some r) quantum index = cond (same_sort quantum (Some r)) (placed_at r index) (Err Unknown)
+
+-- what an argument means among the registers of a sort, or why it means nothing
+abbrev pub find : List (List ℕ × Register) → Bool → Argument → Result Target Miss
+find all quantum a = find_in (register all a.name) quantum (index_of a.index)
+
+abbrev pub why_missed : Miss → Why
+why_missed Unknown = UnknownRegister
+why_missed Beyond = IndexOutOfRange
+
+-- two that are found; an unknown register is told first
+abbrev pub both_found : Result Target Miss → Result Target Miss → Result (Target × Target) Miss
+both_found (Ok f) (Ok t) = Ok (f, t)
+both_found (Ok f) (Err m) = Err m
+both_found (Err Unknown) t = Err Unknown
+both_found (Err Beyond) (Ok t) = Err Beyond
+both_found (Err Beyond) (Err m) = Err m
+
+-- what is known of the arguments so far: the first three, how many there are, counted up to 4, and whether some miss
+pub record Found : Type 0 where
+  pub targets : List Target
+  pub count : ℕ
+  pub unknown : Bool
+  pub beyond : Bool
+
+abbrev pub seen_found : CodeFound → Found
+seen_found f = record { targets = seen_targets f.targets.items; count = f.count; unknown = f.unknown; beyond = f.beyond }
+
+abbrev pub nothing_found : Found
+nothing_found = record { targets = []; count = 0; unknown = false; beyond = false }
+
+abbrev pub next_count : ℕ → ℕ
+next_count n = cond (nat_lt n 4) (n + 1) n
+
+abbrev pub noted : Found → Result Target Miss → Found
+noted f (Ok t) = record { targets = cond (nat_lt (length f.targets) 3) (f.targets ++ t ∷ []) f.targets; count = next_count f.count; unknown = f.unknown; beyond = f.beyond }
+noted f (Err Unknown) = record { targets = f.targets; count = next_count f.count; unknown = true; beyond = f.beyond }
+noted f (Err Beyond) = record { targets = f.targets; count = next_count f.count; unknown = f.unknown; beyond = true }
+
+abbrev pub look : List (List ℕ × Register) → Found → List Argument → Found
+look all f [] = f
+look all f (a ∷ more) = look all (noted f (find all true a)) more
+
+-- a number up to a most
+abbrev pub capped : ℕ → ℕ → ℕ
+capped most n = cond (nat_lt n most) n most
+
+abbrev pub other_than : ℕ → ℕ → Bool
+other_than n m = not (nat_eq m n)
+
+-- some size isn't the first one
+abbrev pub differ : List ℕ → Bool
+differ [] = false
+differ (n ∷ ns) = list_any (other_than n) ns
+
+abbrev pub has_twice : List ℕ → Bool
+has_twice [] = false
+has_twice (q ∷ qs) = is_among qs q || has_twice qs
+
+-- whether one of the repeated calls has a qubit twice
+abbrev pub repeats : List Target → Bool
+repeats ts = list_any (λ place. has_twice (qubits_at ts place)) (up_to (place_count ts))
+
+abbrev pub flagged : List Bool → ℕ → Bool
+flagged flags q = get_or flags q false
+
+-- whether one of the repeated calls has a qubit with a flag
+abbrev pub touches : List Bool → List Target → Bool
+touches flags ts = list_any (λ place. list_any (flagged flags) (qubits_at ts place)) (up_to (place_count ts))
+
+-- so many gates of a kind
+abbrev pub items_of : Kind × ℕ → List Item
+items_of p = replicate p.1 (one p.0)
+
+abbrev pub bodies : Result (Kind × ℕ) Why → Result (List Item) Why
+bodies (Ok p) = Ok (items_of p)
+bodies (Err why) = Err why
+
+abbrev pub counted : List Bool → List Target → ℕ → Result (Kind × ℕ) Why → Result (Kind × ℕ) Why
+counted flags ts gates (Err why) = Err why
+counted flags ts gates (Ok p) = cond (touches flags ts) (Err Measured) (cond (nat_lt 1000000 (gates + p.1 * place_count ts)) (Err TooManyGates) (Ok p))
+
+-- why a call on these targets is refused, or how often a gate of which kind is done at each place
+abbrev pub outcome_on : Result (Kind × ℕ) Why → List Target → List Bool → ℕ → Result (Kind × ℕ) Why
+outcome_on body ts flags gates = cond (differ (wholes ts)) (Err SizesDiffer) (cond (repeats ts) (Err RepeatedQubit) (counted flags ts gates body))
