@@ -1,12 +1,14 @@
 //! The steps of some gates, and one gate on a state.
-ghost use Rattle.std.specs.Prelude.{length};
+ghost use Rattle.std.specs.Prelude.{All, ◌≡◌, ◌<◌, ◌-◌, ◌^◌, length};
+ghost use Rattle.slice_quad.specs.Vectors.{Stands};
 
 use crate::{Side, gate_step, step_of};
 use bit_lists::Bits;
 use diagram_ops::Diagrams;
 use gate_set::{Entry, Gate, Kind};
 use ring_omega::Quad;
-use slice_quad::{Step, entry, exponent, start};
+use slice_quad::{SliceQuad, Step, entry, exponent, start};
+use std::process::Abort;
 
 #[test]
 fn steps_of_gates(rt: HostRuntime) {
@@ -43,6 +45,17 @@ fn steps_of_gates(rt: HostRuntime) {
     assert_eq!(rt; (first, second), (4, 0));
 }
 
+/// Applies a gate that is not refused.
+fn apply(rt: &impl Abort, d: &mut Diagrams, q: &mut SliceQuad, gate: &Gate)
+    requires stands { Stands d.old.store q.old }
+    requires below { All (λ q. q < length d.old.store.order) gate.now.on }
+    requires exponent { q.old.exponent < 2 ^ 32 - 1 }
+    ensures stands { Stands d.new.store q.new }
+    ensures order { length d.new.store.order ≡ length d.old.store.order }
+{
+    assert!(rt; gate_step(d, q, gate, 2).is_ok());
+}
+
 #[test]
 fn a_gate_on_a_state(rt: HostRuntime) {
     let alloc = rt.alloc();
@@ -54,7 +67,7 @@ fn a_gate_on_a_state(rt: HostRuntime) {
         panic!(rt; "no room");
     };
     let gate = Gate::new(alloc, Kind::H, &[0]);
-    assert!(rt; gate_step(&mut d, &mut q, &gate, 2).is_ok());
+    apply(&rt, &mut d, &mut q, &gate);
     let mut one = zero;
     one.set(0, true);
     let half = Quad {

@@ -1,6 +1,6 @@
 //! Turns, and steps on two variables.
-ghost use Rattle.std.specs.Prelude.{◌≡◌, ◌<◌, length};
-ghost use Rattle.slice_quad.specs.Stepping.{IsStepOn};
+ghost use Rattle.std.specs.Prelude.{◌≡◌, ◌≤◌, ◌<◌, length};
+ghost use Rattle.slice_quad.specs.Stepping.{IsStepOn, half_of};
 ghost use Rattle.slice_quad.specs.Vectors.{Stands};
 
 use crate::{
@@ -53,7 +53,8 @@ fn are_both_set(x: &Bits) -> bool {
 /// H on a variable.
 fn hadamard(target: u8) -> Step
     requires { target < 2 }
-    ensures { IsStepOn 2 result }
+    ensures on { IsStepOn 2 result }
+    ensures half { half_of result ≤ 1 }
 {
     Step::Mix {
         controls: Bits::zeros(2),
@@ -68,7 +69,8 @@ fn hadamard(target: u8) -> Step
 
 /// X on the second variable where the first is set.
 fn controlled_flip() -> Step
-    ensures { IsStepOn 2 result }
+    ensures on { IsStepOn 2 result }
+    ensures half { half_of result ≤ 1 }
 {
     Step::Mix {
         controls: pair(true, false),
@@ -83,7 +85,8 @@ fn controlled_flip() -> Step
 
 /// T on the first variable.
 fn turn_by_eighth() -> Step
-    ensures { IsStepOn 2 result }
+    ensures on { IsStepOn 2 result }
+    ensures half { half_of result ≤ 1 }
 {
     Step::Mix {
         controls: Bits::zeros(2),
@@ -100,6 +103,7 @@ fn turn_by_eighth() -> Step
 fn apply(rt: &impl Abort, d: &mut Diagrams, q: &mut SliceQuad, s: &Step)
     requires stands { Stands d.old.store q.old }
     requires on { IsStepOn (length d.old.store.order) s.now }
+    requires half { half_of s.now ≤ 1 }
     ensures stands { Stands d.new.store q.new }
     ensures order { length d.new.store.order ≡ length d.old.store.order }
 {
