@@ -4,6 +4,3 @@
 mod sliced;
 
 pub use sliced::SlicedState;
-
-#[cfg(test)]
-mod tests;

@@ -1,5 +1,0 @@
-use Rattle.std.proofs.Common.{◌≡◌, length}
-use Rattle.state_update.proofs.tests.all_kinds_on_all_placements_of_four_qubits.Given as goal
-
-abbrev pub invariant-loop-a : goal.invariant-loop-a
-invariant-loop-a l = (length l.sliced.input ≡ 4) × (length l.dense.input ≡ 4)
