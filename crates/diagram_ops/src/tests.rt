@@ -522,3 +522,66 @@ fn inner_products<L: Ledger>(rt: &impl Abort, alloc: Global, blank: Blank) -> Re
 fn long_calls_and_short_ones_after_them(rt: HostRuntime) {
     assert!(rt; inner_products::<Brand>(&rt, rt.alloc(), Blank::new(1)).is_ok());
 }
+
+/// x0 + .. + x59, modulo 2.
+fn parity<L: Ledger>(d: &mut Diagrams, steps: &mut Steps<L>) -> Result<Node, StoreStop>
+    requires vars { length d.old.store.order ≡ 60 }
+    ensures vars { length d.new.store.order ≡ 60 }
+    ensures live { IfOk result (λ n. IsLive d.new.store n.0) }
+{
+    let mut sum = FALSE;
+    for i in 0..60u8 {
+        let x = d.variable(i)?;
+        sum = d.apply3::<60, _>(sum, x, FALSE, steps)?;
+    }
+    Ok(sum)
+}
+
+/// x59 fixed.
+fn last_fixed(bit: bool) -> Partial
+    ensures { length result ≡ 60 }
+{
+    let mut p = Partial::free(60);
+    p.fix(59, Some(bit));
+    p
+}
+
+/// Whether f is true somewhere, and differs from g somewhere, where x59 is fixed: both as expected.
+fn check_last(rt: &impl Abort, store: &Store, f: Node, g: Node, bit: bool) -> Option<()>
+    requires f { IsLive store.now f.0 }
+    requires g { IsLive store.now g.0 }
+    requires vars { length store.now.order ≡ 60 }
+{
+    let p = last_fixed(bit);
+    assert_eq!(rt; store.any(f, &p).ok()?, bit);
+    assert_eq!(rt; store.differ(f, g, &p).ok()?, bit);
+    Some(())
+}
+
+/// The parity and x59, and its negation and x59: nowhere true without x59, and different with it.
+fn halves_of_parity<L: Ledger>(
+    rt: &impl Abort,
+    alloc: Global,
+    blank: Blank,
+) -> Result<(), StoreStop>
+    requires name { blank.name ≡ L.name }
+    requires parts { blank.parts ≡ L.parts }
+    requires some { 0 < blank.parts }
+{
+    let mut steps = Steps::<L>::new(blank);
+    let mut d = Diagrams::new(alloc, 60, 4096, 16)?;
+    assert!(rt; d.store().order().len() == 60);
+    let p = parity(&mut d, &mut steps)?;
+    let x = d.variable(59)?;
+    let f = d.apply3::<192, _>(p, x, FALSE, &mut steps)?;
+    let g = d.apply3::<48, _>(x, p, FALSE, &mut steps)?;
+    assert!(rt; check_last(rt, d.store(), f, g, false).is_some());
+    assert!(rt; check_last(rt, d.store(), f, g, true).is_some());
+    Ok(())
+}
+
+// A walk that met a pair of nodes more than once would take some 2^58 steps.
+#[test]
+fn tests_on_a_parity_are_linear(rt: HostRuntime) {
+    assert!(rt; halves_of_parity::<Brand>(&rt, rt.alloc(), Blank::new(1)).is_ok());
+}
