@@ -36,3 +36,6 @@ pub use reading::entry;
 pub use stepping::step;
 pub use stop::QuadStop;
 pub use walk::next_nonzero;
+
+#[cfg(test)]
+mod tests;

@@ -4,3 +4,6 @@
 mod sliced;
 
 pub use sliced::SlicedState;
+
+#[cfg(test)]
+mod tests;

@@ -1,0 +1,316 @@
+//! The state on integers over diagrams against the dense one, and states of 64 qubits.
+ghost use Rattle.std.specs.Prelude.{◌≡◌, ◌≢◌, ◌≤◌, ◌<◌, ℕ, length};
+ghost use Rattle.gate_set.specs.Shape.{IsOn};
+
+use crate::SlicedState;
+use amp_dense::{Amplitudes, DenseState, Rules, Stop};
+use bit_lists::Bits;
+use gate_set::{Gate, Kind};
+use ring_omega::Quad;
+use std::alloc::Global;
+use std::process::Abort;
+
+const ONE: Quad = Quad {
+    a: 0,
+    b: 0,
+    c: 0,
+    d: 1,
+};
+
+const KINDS: [Kind; 18] = [
+    Kind::H,
+    Kind::T,
+    Kind::RxP,
+    Kind::Cx,
+    Kind::RyM,
+    Kind::Tdg,
+    Kind::Cswap,
+    Kind::S,
+    Kind::Y,
+    Kind::Swap,
+    Kind::RxM,
+    Kind::Cz,
+    Kind::Sdg,
+    Kind::Ccx,
+    Kind::RyP,
+    Kind::X,
+    Kind::Z,
+    Kind::Id,
+];
+
+const PLACEMENTS: [(u8, u8, u8); 24] = [
+    (0, 1, 2),
+    (0, 1, 3),
+    (0, 2, 1),
+    (0, 2, 3),
+    (0, 3, 1),
+    (0, 3, 2),
+    (1, 0, 2),
+    (1, 0, 3),
+    (1, 2, 0),
+    (1, 2, 3),
+    (1, 3, 0),
+    (1, 3, 2),
+    (2, 0, 1),
+    (2, 0, 3),
+    (2, 1, 0),
+    (2, 1, 3),
+    (2, 3, 0),
+    (2, 3, 1),
+    (3, 0, 1),
+    (3, 0, 2),
+    (3, 1, 0),
+    (3, 1, 2),
+    (3, 2, 0),
+    (3, 2, 1),
+];
+
+/// The usual rules with another width.
+fn of_width(width: u8) -> Rules
+    requires least { 2 ≤ width }
+    requires greatest { width ≤ 128 }
+{
+    Rules {
+        width,
+        nodes: 1_048_576,
+        cache: 65_536,
+        reclaim: 16,
+        sift: 0,
+    }
+}
+
+/// The gate on the first of three qubits, as many as its kind asks for.
+fn placed(alloc: Global, kind: Kind, a: u8, b: u8, c: u8) -> Gate
+    requires a { a < 64 }
+    requires b { b < 64 }
+    requires c { c < 64 }
+    requires ab { a ≢ b }
+    requires ac { a ≢ c }
+    requires bc { b ≢ c }
+    ensures { (n : ℕ) → a < n → b < n → c < n → IsOn n result }
+{
+    match kind.arity() {
+        1 => Gate::new(alloc, kind, &[a]),
+        2 => Gate::new(alloc, kind, &[a, b]),
+        _ => Gate::new(alloc, kind, &[a, b, c]),
+    }
+}
+
+/// Applies a gate. The answer is where the width was refused, or 0.
+fn refused_at<A: Amplitudes>(alloc: Global, state: &mut A, gate: &Gate) -> u32
+    requires { IsOn (length (A.standing state.old).input) gate.now }
+    ensures { (A.standing state.new).input ≡ (A.standing state.old).input }
+{
+    if state.accepted() >= 2_000_000 {
+        return u32::MAX;
+    }
+    match state.apply(alloc, gate) {
+        Ok(()) => 0,
+        Err(Stop::Width { gate }) => gate,
+        Err(_) => u32::MAX,
+    }
+}
+
+/// The list of four bits of a number.
+fn four_bits(number: u8) -> Bits
+    ensures { length result ≡ 4 }
+{
+    let mut x = Bits::zeros(4);
+    x.set(0, number & 8 != 0);
+    x.set(1, number & 4 != 0);
+    x.set(2, number & 2 != 0);
+    x.set(3, number & 1 != 0);
+    x
+}
+
+/// The two states on 4 qubits have the same entries and exponent.
+fn expect_same(rt: &impl Abort, sliced: &SlicedState, dense: &DenseState)
+    requires sliced { length sliced.now.input ≡ 4 }
+    requires dense { length dense.now.input ≡ 4 }
+{
+    assert_eq!(rt; sliced.exponent(), dense.exponent());
+    for number in 0..16u8 {
+        let x = four_bits(number);
+        assert_eq!(rt; sliced.entry(&x), dense.entry(&x));
+    }
+}
+
+/// Applies all kinds on three qubits, and compares the two states after each.
+fn apply_kinds(
+    rt: &impl Abort,
+    alloc: Global,
+    sliced: &mut SlicedState,
+    dense: &mut DenseState,
+    on: (u8, u8, u8),
+)
+    requires sliced { length sliced.old.input ≡ 4 }
+    requires dense { length dense.old.input ≡ 4 }
+    requires a { on.0 < 4 }
+    requires b { on.1 < 4 }
+    requires c { on.2 < 4 }
+    requires ab { on.0 ≢ on.1 }
+    requires ac { on.0 ≢ on.2 }
+    requires bc { on.1 ≢ on.2 }
+    ensures sliced { length sliced.new.input ≡ 4 }
+    ensures dense { length dense.new.input ≡ 4 }
+{
+    for kind in KINDS {
+        let gate = placed(alloc, kind, on.0, on.1, on.2);
+        assert_eq!(rt; refused_at(alloc, sliced, &gate), 0);
+        assert_eq!(rt; refused_at(alloc, dense, &gate), 0);
+        expect_same(rt, sliced, dense);
+    }
+}
+
+#[test]
+fn all_kinds_on_all_placements_of_four_qubits(rt: HostRuntime) {
+    let alloc = rt.alloc();
+    let zeros = Bits::zeros(4);
+    let Ok(mut sliced) = SlicedState::start(alloc, &zeros, &Rules::usual()) else {
+        panic!(rt; "no memory");
+    };
+    let Ok(mut dense) = DenseState::start(alloc, &zeros, &Rules::usual()) else {
+        panic!(rt; "no memory");
+    };
+    for (a, b, c) in PLACEMENTS {
+        if a < 4 && b < 4 && c < 4 && a != b && a != c && b != c {
+            apply_kinds(&rt, alloc, &mut sliced, &mut dense, (a, b, c));
+        }
+    }
+    assert_eq!(rt; sliced.accepted(), 24 * 18);
+}
+
+/// Applies H and T in turn to the first of 4 qubits, and Cx to the second, until the width is refused. The answer
+/// is where, or 0.
+fn until_refused<A: Amplitudes>(alloc: Global, state: &mut A) -> u32
+    requires { length (A.standing state.old).input ≡ 4 }
+    ensures { (A.standing state.new).input ≡ (A.standing state.old).input }
+{
+    for turn in 0..120usize {
+        let kind = [Kind::H, Kind::T, Kind::Cx][turn % 3];
+        let refused = refused_at(alloc, state, &placed(alloc, kind, 0, 1, 2));
+        if refused != 0 {
+            return refused;
+        }
+    }
+    0
+}
+
+#[test]
+fn width_stops_at_each_width(rt: HostRuntime) {
+    let alloc = rt.alloc();
+    let zeros = Bits::zeros(4);
+    for width in 2..9u8 {
+        let rules = of_width(width);
+        let Ok(mut sliced) = SlicedState::start(alloc, &zeros, &rules) else {
+            panic!(rt; "no memory");
+        };
+        let Ok(mut dense) = DenseState::start(alloc, &zeros, &rules) else {
+            panic!(rt; "no memory");
+        };
+        let refused = until_refused(alloc, &mut dense);
+        assert!(rt; refused != 0 && refused != u32::MAX);
+        assert_eq!(rt; until_refused(alloc, &mut sliced), refused);
+        expect_same(&rt, &sliced, &dense);
+    }
+}
+
+/// The first bit of a list that was found, and None where there was none.
+fn first_bit(found: Option<Bits>) -> Option<bool> {
+    let x = found?;
+    if x.is_empty() { None } else { Some(x.get(0)) }
+}
+
+#[test]
+fn walk_of_nonzero(rt: HostRuntime) {
+    let alloc = rt.alloc();
+    let zero = Bits::zeros(1);
+    let mut one = zero;
+    one.set(0, true);
+    let Ok(mut state) = SlicedState::start(alloc, &zero, &Rules::usual()) else {
+        panic!(rt; "no memory");
+    };
+    let gate = Gate::new(alloc, Kind::H, &[0]);
+    assert_eq!(rt; refused_at(alloc, &mut state, &gate), 0);
+    assert_eq!(rt;
+        state.next_nonzero(alloc, None).map(first_bit),
+        Ok(Some(false))
+    );
+    assert_eq!(rt;
+        state.next_nonzero(alloc, Some(&zero)).map(first_bit),
+        Ok(Some(true))
+    );
+    assert_eq!(rt;
+        state.next_nonzero(alloc, Some(&one)).map(first_bit),
+        Ok(None)
+    );
+}
+
+/// Whether all bits are set.
+fn are_all_set(x: &Bits) -> bool {
+    for place in 0..x.len() {
+        if !x.get(place) {
+            return false;
+        }
+    }
+    true
+}
+
+#[test]
+fn sixty_four_qubits_in_two_states(rt: HostRuntime) {
+    let alloc = rt.alloc();
+    let zeros = Bits::zeros(64);
+    let Ok(mut state) = SlicedState::start(alloc, &zeros, &Rules::usual()) else {
+        panic!(rt; "no memory");
+    };
+    let gate = Gate::new(alloc, Kind::H, &[0]);
+    assert_eq!(rt; refused_at(alloc, &mut state, &gate), 0);
+    for place in 0..63u8 {
+        let gate = Gate::new(alloc, Kind::Cx, &[place, place + 1]);
+        assert_eq!(rt; refused_at(alloc, &mut state, &gate), 0);
+    }
+    assert_eq!(rt; state.accepted(), 64);
+    assert_eq!(rt; state.exponent(), 1);
+    assert_eq!(rt; state.entry(&zeros), ONE);
+    let Ok(Some(ones)) = state.next_nonzero(alloc, Some(&zeros)) else {
+        panic!(rt; "a second state is missing");
+    };
+    if ones.len() != 64 {
+        panic!(rt; "not 64 bits");
+    }
+    assert!(rt; are_all_set(&ones));
+    assert_eq!(rt; state.entry(&ones), ONE);
+    assert!(rt; matches!(state.next_nonzero(alloc, Some(&ones)), Ok(None)));
+}
+
+#[test]
+fn a_full_store_leaves_the_state(rt: HostRuntime) {
+    let alloc = rt.alloc();
+    let zeros = Bits::zeros(64);
+    let rules = Rules {
+        width: 128,
+        nodes: 64,
+        cache: 1,
+        reclaim: 16,
+        sift: 0,
+    };
+    let Ok(mut state) = SlicedState::start(alloc, &zeros, &rules) else {
+        panic!(rt; "no memory");
+    };
+    let gate = Gate::new(alloc, Kind::H, &[0]);
+    let stop = state.apply(alloc, &gate);
+    assert!(rt;
+        matches!(
+            stop,
+            Err(Stop::Nodes {
+                gate: 1,
+                held: 64,
+                ..
+            })
+        )
+    );
+    let (diagrams, _quad) = state.parts();
+    assert_eq!(rt; diagrams.store().held(), 64);
+    assert_eq!(rt; (state.accepted(), state.exponent()), (0, 0));
+    assert_eq!(rt; state.entry(&zeros), ONE);
+}
