@@ -78,7 +78,7 @@ module _ (limit : ℕ) (before : List Act) (part : Part) where
           inl (d.0, record { free = f; statement = s; has = g.has; does = d.1 })
 
 -- a statement is the version or isn't
-version_or_not : (s : Statement) → (s ≡ version) ⊎ (s ≡ version → ⊥)
+pub version_or_not : (s : Statement) → (s ≡ version) ⊎ (s ≡ version → ⊥)
 version_or_not version = inl refl
 version_or_not (include text) = inr (λ e. cc)
 version_or_not (qubits name size) = inr (λ e. cc)

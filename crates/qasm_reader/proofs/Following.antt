@@ -172,7 +172,7 @@ module _ (limit : ℕ) (few : limit ≤ 64) (before : List Act) (d : Draft) (f :
       ap (λ x. why_of (step limit x s t)) f.is ∙ told limit before few_qubits few_gates (subst (λ x. All (λ q. q < x.qubits) (measured before)) f.is f.marked) s t y
 
   -- what comes of a statement that stands in its place
-  concludes : (part : Part) (s : Statement) (t : Taken) → IsGood before part s → Yields (called_in before s) (angles_of s) t → (why : Option Why) (e : Draft) → outcome why e ≡ step limit d s t → Concludes limit before part why e
+  pub concludes : (part : Part) (s : Statement) (t : Taken) → IsGood before part s → Yields (called_in before s) (angles_of s) t → (why : Option Why) (e : Draft) → outcome why e ≡ step limit d s t → Concludes limit before part why e
   concludes part s t g y None e h =
       let x = done s t e y (sym h) in
       (x.0, record { free = free limit before part s t y g (sym (tells s t y) ∙ ap why_of (sym h)); statement = s; has = g.has; does = x.1 }, x.2)

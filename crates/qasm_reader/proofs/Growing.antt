@@ -317,3 +317,12 @@ module _ (limit : ℕ) (before : List Act) (d : Draft) (f : Follows limit before
         flags = f.fits.flags;
         registers_end = f.fits.registers_end;
       }
+
+-- the draft of no statement
+pub follows_none : (limit : ℕ) → Follows limit [] (draft_of [])
+follows_none limit = record {
+  is = refl;
+  fits = record { few_qubits = omega arith; few_gates = omega arith; within = All-nil _; flags = refl; registers_end = tt };
+  few = omega arith;
+  marked = All-nil _;
+}

@@ -2,7 +2,6 @@
 use Rattle.std.proofs.Common.{◌≡◌, ◌≢◌, ◌∙◌, sym, ap, refl, subst, ℕ, suc, ◌+◌, Bool, true, false, cond, nat_eq, List, [], ◌∷◌, ◌++◌, length, append_assoc, Option, Some, None, Result, Ok, Err, IfErr, arith}
 use Rattle.std.proofs.lemmas.Bool.Decides.{nat_tests}
 use Rattle.std.proofs.lemmas.List.{length-append}
-use Rattle.std.proofs.lemmas.List.Elements.{All-nil}
 use Rattle.qasm_reader.specs.declared.reason.Why.{Why}
 use Rattle.qasm_reader.specs.declared.reason.Why.TheVariants.{BadByte, NoVersion}
 use Rattle.qasm_reader.specs.declared.reason.Refusal.{Refusal}
@@ -19,6 +18,7 @@ use Rattle.qasm_reader.specs.Reading.{Accepts, AllAccepted, circuit, refusal, Is
 use Rattle.qasm_reader.proofs.PartCuts.{parts_cut, ended_stops}
 use Rattle.qasm_reader.specs.Private.Drafts.{Draft, Follows, Concludes, Reached, circuit_in, ended_part, draft_of, is_first, no_form}
 use Rattle.qasm_reader.proofs.Good.{bad_refuses, version_refuses, form_refuses}
+use Rattle.qasm_reader.proofs.Growing.{follows_none}
 use Rattle.std.proofs.lemmas.List.{append-nil}
 
 accepted_more : (limit : ℕ) (before : List Act) (good : List Part) (acts : List Act) (p : Part) (a : Act)
@@ -208,19 +208,7 @@ pub some_bad : (ls : List Lexeme) (bad : Option ℕ) → bad ≢ None → parts_
 some_bad ls bad n e = n (some_parts ls bad e).1
 
 pub reached_start : (limit : ℕ) (all : List Part) → Reached limit all all (draft_of []) 1
-reached_start limit all = record {
-  good = [];
-  acts = [];
-  split = refl;
-  accepted = tt;
-  follows = record {
-    is = refl;
-    fits = record { few_qubits = omega arith; few_gates = omega arith; within = All-nil _; flags = refl; registers_end = tt };
-    few = omega arith;
-    marked = All-nil _;
-  };
-  count = refl;
-}
+reached_start limit all = record { good = []; acts = []; split = refl; accepted = tt; follows = follows_none limit; count = refl }
 
 -- what holds of a refusal holds where it follows
 pub if_refused : {A : Type 0} (r : Result A ReadStop) (P Q : Refusal → Type 0) → ((x : Refusal) → P x → Q x) → IfErr r (λ stop. IfRefused stop P) → IfErr r (λ stop. IfRefused stop Q)
