@@ -17,6 +17,7 @@ pub mod Narrow
 pub mod Onwards
 pub mod RawValues
 pub mod Raws
+pub mod RowsColumns
 pub mod Settling
 pub mod Starting
 pub mod Starts

@@ -7,6 +7,7 @@ pub mod Fours
 pub mod Mix
 pub mod Nonzero
 pub mod Raws
+pub mod RowsColumns
 pub mod Settled
 pub mod Started
 pub mod Stepping
