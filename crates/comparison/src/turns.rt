@@ -2,11 +2,17 @@
 ghost use Rattle.std.specs.Prelude.{◌≡◌, ◌<◌, ◌≤◌, ◌+◌, ◌*◌, ◌∷◌, ◌↔◌, ℕ, length, drop, All, IsTrue};
 ghost use Rattle.gate_set.specs.Shape.{IsOn};
 ghost use Rattle.comparison.specs.Steps.{IsLeftNext, mixed};
-ghost use Rattle.dense_matrix.specs.Sides.{step_of, lefts, rights};
+ghost use Rattle.comparison.specs.Sides.{step_of, lefts, rights};
 
-use crate::step::Side;
 use gate_set::Gate;
 use std::alloc::Global;
+
+/// The side from which a matrix is multiplied.
+#[derive(Clone, Copy, Debug, PartialEq, Eq)]
+pub enum Side {
+    Left,
+    Right,
+}
 
 /// A gate and the side from which it is multiplied.
 #[derive(Drop)]

@@ -4,8 +4,8 @@ use Rattle.gate_set.specs.declared.gate.Gate.{Gate}
 use Rattle.gate_set.specs.Circuits.{inverse_gate}
 use Rattle.comparison.specs.Products.Step.{left, right}
 use Rattle.comparison.specs.Steps.{mixed, IsLeftNext}
-use Rattle.dense_matrix.proofs.TurnLemmas.{left_turn, right_turn, right_left}
-use Rattle.dense_matrix.proofs.turns.next_turn.Goals as goal
+use Rattle.comparison.proofs.TurnLemmas.{left_turn, right_turn, right_left}
+use Rattle.comparison.proofs.turns.next_turn.Goals as goal
 
 none_more : (n : ℕ) → n ≡ n + 0
 none_more n = omega arith
