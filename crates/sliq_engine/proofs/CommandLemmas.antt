@@ -5,7 +5,7 @@ use Rattle.amp_dense.specs.Rules.{Settings}
 use Rattle.sliq_words.specs.declared.reading.Task.{Task}
 use Rattle.sliq_words.specs.declared.reading.Task.TheVariants as task
 use Rattle.sliq_engine.specs.Commands.{CarriesOut}
-use Rattle.sliq_engine.specs.Laws.{IsSure}
+use Rattle.sliq_engine.specs.Laws.{IsNoFault, IsSure}
 use Rattle.sliq_engine.proofs.SimLemmas.{one_sims, some_sims}
 use Rattle.sliq_engine.proofs.EqLemmas.{one_compares, some_compares}
 use Rattle.sliq_engine.proofs.ProbLemmas.{one_weighs, some_weighs}
@@ -19,7 +19,7 @@ one_end task.Eq rules texts = one_compares rules (get_or texts 0 []) (get_or tex
 one_end (task.Demo qubits gates seed) rules texts = one_demonstrates rules qubits gates seed
 
 -- some end, command by command
-pub some_end : (it : Task) (rules : Settings) (texts : List (List ℕ)) → HasSomeEnd IsSure (CarriesOut it rules texts)
+pub some_end : (it : Task) (rules : Settings) (texts : List (List ℕ)) → HasSomeEnd IsNoFault (CarriesOut it rules texts)
 some_end (task.Sim bits) rules texts = some_sims bits rules (get_or texts 0 [])
 some_end task.Prob rules texts = some_weighs rules (get_or texts 0 [])
 some_end task.Eq rules texts = some_compares rules (get_or texts 0 []) (get_or texts 1 [])

@@ -17,12 +17,12 @@ use Rattle.demo_text.specs.Generator.{demo_text}
 use Rattle.demo_reads.proofs.Whole.{demo_unrefused}
 use Rattle.sliq_engine.specs.declared.output.SendStop.{SendStop}
 use Rattle.sliq_engine.specs.declared.cause.Cause.{Cause}
-use Rattle.sliq_engine.specs.declared.cause.Cause.TheVariants.{Done, Unbuilt, Refused, Width, OutOfMemory}
+use Rattle.sliq_engine.specs.declared.cause.Cause.TheVariants.{Done, Unbuilt, Refused, Width, Nodes, OutOfMemory}
 use Rattle.sliq_engine.specs.Steps.{Reads, cause_of, zeros, Simulates, Output, Writes}
 use Rattle.sliq_engine.specs.Demo.{summary_output, demo_output, Demonstrates}
 use Rattle.sliq_engine.specs.Ending.{MayEnd, MayStopBy}
 use Rattle.sliq_engine.specs.Private.{cause_of_sending}
-use Rattle.sliq_engine.specs.Laws.{IsSure}
+use Rattle.sliq_engine.specs.Laws.{IsNoFault, IsSure}
 use Rattle.sliq_engine.proofs.Endings.{ends_first, ends_after, ends_sending}
 use Rattle.sliq_engine.proofs.StepLemmas.{one_reads, some_reads, one_simulates, some_simulates, some_built}
 
@@ -33,12 +33,12 @@ one_demonstrates rules q n seed =
     (λ _. one_after IsSure _ _ (one_simulates rules (zeros c.qubits) c.gates)
     (λ _. one_hands_on IsSure _)))
 
-pub some_demonstrates : (rules : Settings) (q n seed : ℕ) → HasSomeEnd IsSure (Demonstrates rules q n seed)
+pub some_demonstrates : (rules : Settings) (q n seed : ℕ) → HasSomeEnd IsNoFault (Demonstrates rules q n seed)
 some_demonstrates rules q n seed =
-    some_after IsSure _ _ (some_reads 1 (demo_text q n seed))
-    (λ c. some_after IsSure _ _ (some_built 12 c.qubits 1)
-    (λ _. some_after IsSure _ _ (some_simulates rules (zeros c.qubits) c.gates)
-    (λ _. some_hands_on IsSure _)))
+    some_after IsNoFault _ _ (some_reads 1 (demo_text q n seed))
+    (λ c. some_after IsNoFault _ _ (some_built 12 c.qubits 1)
+    (λ _. some_after IsNoFault _ _ (some_simulates rules (zeros c.qubits) c.gates)
+    (λ _. some_hands_on IsNoFault _)))
 
 -- the summary of a circuit, from what its working vector stands by
 working_summary : (m n : ℕ) (rules : Settings) (gates : List Gate) (t : Standing) → m ≡ n → GoesBy (begun (zeros n) rules) gates t
@@ -93,7 +93,7 @@ module _ (file : ℕ) (r : Refusal) where
 
   no_gate_refuses : (stop : Stop) (cause : Cause) → cause ≡ cause_of stop → refusing ≡ Err cause → ⊥
   no_gate_refuses (stops.Width gate) cause is e = absurd (let same : Refused file r ≡ cause = cc in let other : Refused file r ≡ Width gate = same ∙ is in cc)
-  no_gate_refuses (stops.Nodes gate order held) cause is e = absurd (let same : Refused file r ≡ cause = cc in let other : Refused file r ≡ OutOfMemory = same ∙ is in cc)
+  no_gate_refuses (stops.Nodes gate order held) cause is e = absurd (let same : Refused file r ≡ cause = cc in let other : Refused file r ≡ Nodes gate order held = same ∙ is in cc)
   no_gate_refuses stops.OutOfMemory cause is e = absurd (let same : Refused file r ≡ cause = cc in let other : Refused file r ≡ OutOfMemory = same ∙ is in cc)
 
   module _ (rules : Settings) (c : Circuit) where

@@ -1,6 +1,5 @@
 -- How `eq` ends, exit by exit, and that it has one end.
-use Rattle.std.proofs.Common.{◌≡◌, ◌≢◌, ◌⊎◌, inl, inr, ◌↔◌, ℕ, ◌<◌, ◌≤◌, List, Option, Result, Ok, Err, All, length, refl, sym, ◌∙◌, ap, subst, arith}
-use Rattle.std.proofs.lemmas.Bool.{cases_eq}
+use Rattle.std.proofs.Common.{◌≡◌, ◌⊎◌, inl, inr, ◌↔◌, ℕ, ◌<◌, ◌≤◌, List, Option, Result, Ok, Err, All, length, refl, sym, ◌∙◌, ap, subst, arith}
 use Rattle.ring_omega.specs.declared.quad.Quad.{Quad}
 use Rattle.gate_set.specs.Circuits.{Circuit, IsCircuit}
 use Rattle.gate_set.specs.Shape.{IsOn}
@@ -21,18 +20,18 @@ use Rattle.dense_matrix.specs.declared.comparing.MatrixStop.TheVariants as matri
 use Rattle.dense_matrix.specs.Stops.{StopMeans}
 use Rattle.outside.specs.Bytes.{Added, AddedSome}
 use Rattle.phases.specs.Phases.{HasOneEnd, HasSomeEnd, ◌>>=◌, StopsWhere}
-use Rattle.phases.proofs.Ends.{one_after, one_stops_where, some_after, some_stops_where}
+use Rattle.phases.proofs.Ends.{one_after, one_stops_where, some_after}
 use Rattle.sliq_engine.specs.declared.output.SendStop.{SendStop}
 use Rattle.sliq_engine.specs.declared.output.SendStop.TheVariants as sends
 use Rattle.sliq_engine.specs.declared.cause.Cause.{Cause}
-use Rattle.sliq_engine.specs.declared.cause.Cause.TheVariants.{Done, Differs, Unbuilt, QubitsDiffer, Width, WriteFault, OutOfMemory}
-use Rattle.sliq_engine.specs.Steps.{Reads, Output, Writes}
+use Rattle.sliq_engine.specs.declared.cause.Cause.TheVariants.{Done, Differs, Unbuilt, Width, WriteFault, OutOfMemory}
+use Rattle.sliq_engine.specs.Steps.{Reads, SameQubits, Output, Writes}
 use Rattle.sliq_engine.specs.Eq.{Multiplies, told_by, Says, Compares}
 use Rattle.sliq_engine.specs.Ending.{MayEnd, MayStopBy}
 use Rattle.sliq_engine.specs.Private.{cause_of_sending, cause_of_matrix}
-use Rattle.sliq_engine.specs.Laws.{IsSure}
+use Rattle.sliq_engine.specs.Laws.{IsNoFault, IsSure}
 use Rattle.sliq_engine.proofs.Endings.{ends_first, ends_after}
-use Rattle.sliq_engine.proofs.StepLemmas.{one_reads, some_reads, some_built}
+use Rattle.sliq_engine.proofs.StepLemmas.{one_reads, some_reads, one_same, some_same, some_built}
 
 -- ---- one end
 one_multiplies : (rules : Settings) (u v : Circuit) → HasOneEnd IsSure (Multiplies rules u v)
@@ -54,34 +53,31 @@ one_compares rules one two =
     (λ u. one_after IsSure _ _ (one_reads 2 two)
     (λ v. one_after IsSure _ _ (one_stops_where IsSure (6 < u.qubits) (Unbuilt 1))
     (λ _. one_after IsSure _ _ (one_stops_where IsSure (6 < v.qubits) (Unbuilt 2))
-    (λ _. one_after IsSure _ _ (one_stops_where IsSure (u.qubits ≢ v.qubits) (QubitsDiffer u.qubits v.qubits))
+    (λ _. one_after IsSure _ _ (one_same u.qubits v.qubits)
     (λ _. one_after IsSure _ _ (one_multiplies rules u v) (λ _. one_says u v))))))
 
 -- ---- some end
-some_multiplies : (rules : Settings) (u v : Circuit) → HasSomeEnd IsSure (Multiplies rules u v)
+some_multiplies : (rules : Settings) (u v : Circuit) → HasSomeEnd IsNoFault (Multiplies rules u v)
 some_multiplies rules u v = by (steps_fit_or_first_unfit rules.width u.qubits (steps_of u.gates v.gates))
   where
     by : AllStepsFit rules.width u.qubits (steps_of u.gates v.gates) ⊎ ((number : ℕ) × IsFirstUnfitStep rules.width u.qubits (steps_of u.gates v.gates) number)
-        → HasSomeEnd IsSure (Multiplies rules u v)
+        → HasSomeEnd IsNoFault (Multiplies rules u v)
     by (inl all) = (Ok tt, all, tt)
     by (inr first) = (Err (Width first.0), (first.0, first.1, refl), tt)
 
-some_says : (u v : Circuit) → HasSomeEnd IsSure (Says u v)
+some_says : (u v : Circuit) → HasSomeEnd IsNoFault (Says u v)
 some_says u v =
     let s = some_verdict u.qubits (compared u.gates v.gates) (exponent (comparison u.gates v.gates)) in
     (Ok (record { cause = told_by s.0; bytes = verdict_text s.0 }), (s.0, s.1, refl), tt)
 
-some_same : (m n : ℕ) → HasSomeEnd IsSure (StopsWhere (m ≢ n) (QubitsDiffer m n))
-some_same m n = some_stops_where IsSure (m ≢ n) (QubitsDiffer m n) tt (elim (cases_eq m n) [ inl e ↦ inr (λ h. h e) | inr ne ↦ inl ne ])
-
-pub some_compares : (rules : Settings) (one two : List ℕ) → HasSomeEnd IsSure (Compares rules one two)
+pub some_compares : (rules : Settings) (one two : List ℕ) → HasSomeEnd IsNoFault (Compares rules one two)
 some_compares rules one two =
-    some_after IsSure _ _ (some_reads 1 one)
-    (λ u. some_after IsSure _ _ (some_reads 2 two)
-    (λ v. some_after IsSure _ _ (some_built 6 u.qubits 1)
-    (λ _. some_after IsSure _ _ (some_built 6 v.qubits 2)
-    (λ _. some_after IsSure _ _ (some_same u.qubits v.qubits)
-    (λ _. some_after IsSure _ _ (some_multiplies rules u v) (λ _. some_says u v))))))
+    some_after IsNoFault _ _ (some_reads 1 one)
+    (λ u. some_after IsNoFault _ _ (some_reads 2 two)
+    (λ v. some_after IsNoFault _ _ (some_built 6 u.qubits 1)
+    (λ _. some_after IsNoFault _ _ (some_built 6 v.qubits 2)
+    (λ _. some_after IsNoFault _ _ (some_same u.qubits v.qubits)
+    (λ _. some_after IsNoFault _ _ (some_multiplies rules u v) (λ _. some_says u v))))))
 
 -- ---- the stop of a comparison, as it is told
 pub comparison_stops : (rules : Settings) (u v : Circuit) (stop : MatrixStop) → StopMeans rules.width u.qubits (steps_of u.gates v.gates) stop
@@ -119,14 +115,14 @@ module _ (rules : Settings) (one two : List ℕ) where
 
         module _ (small_second : ¬ (6 < v.qubits)) where
           -- the numbers of qubits differ
-          pub eq_unlike : (cause : Cause) (out : Option (List ℕ)) → MayStopBy (StopsWhere (u.qubits ≢ v.qubits) (QubitsDiffer u.qubits v.qubits)) cause
+          pub eq_unlike : (cause : Cause) (out : Option (List ℕ)) → MayStopBy (SameQubits u.qubits v.qubits) cause
               → MayEnd (Compares rules one two) cause out out
           eq_unlike cause out h =
               ends_after (Reads 1 one) _ u cause out out first
               (ends_after (Reads 2 two) _ v cause out out second
               (ends_after (StopsWhere (6 < u.qubits) (Unbuilt 1)) _ tt cause out out small
               (ends_after (StopsWhere (6 < v.qubits) (Unbuilt 2)) _ tt cause out out small_second
-              (ends_first (StopsWhere (u.qubits ≢ v.qubits) (QubitsDiffer u.qubits v.qubits)) _ cause out h))))
+              (ends_first (SameQubits u.qubits v.qubits) _ cause out h))))
 
           module _ (same : u.qubits ≡ v.qubits) where
             -- the phases before the steps are passed
@@ -136,7 +132,7 @@ module _ (rules : Settings) (one two : List ℕ) where
                 (ends_after (Reads 2 two) _ v cause old new second
                 (ends_after (StopsWhere (6 < u.qubits) (Unbuilt 1)) _ tt cause old new small
                 (ends_after (StopsWhere (6 < v.qubits) (Unbuilt 2)) _ tt cause old new small_second
-                (ends_after (StopsWhere (u.qubits ≢ v.qubits) (QubitsDiffer u.qubits v.qubits)) _ tt cause old new (λ ne. ne same) h))))
+                (ends_after (SameQubits u.qubits v.qubits) _ tt cause old new (λ ne. ne same) h))))
 
             -- a step doesn't fit, or memory was wanted
             pub eq_halts : (stop : MatrixStop) (out : Option (List ℕ)) → StopMeans rules.width u.qubits (steps_of u.gates v.gates) stop

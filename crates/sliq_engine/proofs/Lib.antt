@@ -1,4 +1,5 @@
 mod ListingLemmas
+mod MessageLemmas
 mod WalkLemmas
 mod Endings
 mod StepLemmas

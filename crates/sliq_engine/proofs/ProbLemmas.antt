@@ -22,7 +22,7 @@ use Rattle.probabilities.specs.declared.weigh.WeighStop.{WeighStop}
 use Rattle.probabilities.specs.declared.weigh.WeighStop.TheVariants as weighs
 use Rattle.ring_omega.specs.declared.weight.Weight.{Weight}
 use Rattle.sliq_engine.specs.Private.{cause_of_sending, cause_of_weighing}
-use Rattle.sliq_engine.specs.Laws.{IsSure}
+use Rattle.sliq_engine.specs.Laws.{IsNoFault, IsSure}
 use Rattle.sliq_engine.proofs.Endings.{ends_first, ends_after, ends_sending}
 use Rattle.sliq_engine.proofs.StepLemmas.{one_reads, some_reads, one_simulates, some_simulates, some_built}
 
@@ -59,13 +59,13 @@ one_weighs rules text =
     (λ _. one_after IsSure _ _ (one_stops_where IsSure (IsHeavy c.qubits (work c.gates (zeros c.qubits)).entries) WeightTooWide)
     (λ _. one_hands_on IsSure _))))
 
-pub some_weighs : (rules : Settings) (text : List ℕ) → HasSomeEnd IsSure (Weighs rules text)
+pub some_weighs : (rules : Settings) (text : List ℕ) → HasSomeEnd IsNoFault (Weighs rules text)
 some_weighs rules text =
-    some_after IsSure _ _ (some_reads 1 text)
-    (λ c. some_after IsSure _ _ (some_built 12 c.qubits 1)
-    (λ _. some_after IsSure _ _ (some_simulates rules (zeros c.qubits) c.gates)
-    (λ _. some_after IsSure _ _ (some_stops_where IsSure (IsHeavy c.qubits (work c.gates (zeros c.qubits)).entries) WeightTooWide tt (heavy_or_not (total_weight c.qubits (work c.gates (zeros c.qubits)).entries).a))
-    (λ _. some_hands_on IsSure _))))
+    some_after IsNoFault _ _ (some_reads 1 text)
+    (λ c. some_after IsNoFault _ _ (some_built 12 c.qubits 1)
+    (λ _. some_after IsNoFault _ _ (some_simulates rules (zeros c.qubits) c.gates)
+    (λ _. some_after IsNoFault _ _ (some_stops_where IsNoFault (IsHeavy c.qubits (work c.gates (zeros c.qubits)).entries) WeightTooWide tt (heavy_or_not (total_weight c.qubits (work c.gates (zeros c.qubits)).entries).a))
+    (λ _. some_hands_on IsNoFault _))))
 
 module _ (rules : Settings) (text : List ℕ) where
   -- the text is refused

@@ -15,7 +15,7 @@ use Rattle.sliq_engine.specs.Steps.{Reads, SameQubits, Simulates}
 use Rattle.sliq_engine.specs.Sim.{input_for, sim_output, Sims}
 use Rattle.sliq_engine.specs.Ending.{MayEnd, MayStopBy}
 use Rattle.sliq_engine.specs.Private.{cause_of_sending}
-use Rattle.sliq_engine.specs.Laws.{IsSure}
+use Rattle.sliq_engine.specs.Laws.{IsNoFault, IsSure}
 use Rattle.sliq_engine.proofs.Endings.{ends_first, ends_after, ends_sending}
 use Rattle.sliq_engine.proofs.StepLemmas.{one_reads, some_reads, one_simulates, some_simulates, some_built, one_same, some_same}
 use Rattle.sliq_engine.proofs.WalkLemmas.{working_output}
@@ -30,13 +30,13 @@ one_sims bits rules text =
     (λ _. one_hands_on IsSure _))))
 
 -- it has some end
-pub some_sims : (bits : Option (List Bool)) (rules : Settings) (text : List ℕ) → HasSomeEnd IsSure (Sims bits rules text)
+pub some_sims : (bits : Option (List Bool)) (rules : Settings) (text : List ℕ) → HasSomeEnd IsNoFault (Sims bits rules text)
 some_sims bits rules text =
-    some_after IsSure _ _ (some_reads 1 text)
-    (λ c. some_after IsSure _ _ (some_built 12 c.qubits 1)
-    (λ _. some_after IsSure _ _ (some_same c.qubits (length (input_for bits c.qubits)))
-    (λ _. some_after IsSure _ _ (some_simulates rules (input_for bits c.qubits) c.gates)
-    (λ _. some_hands_on IsSure _))))
+    some_after IsNoFault _ _ (some_reads 1 text)
+    (λ c. some_after IsNoFault _ _ (some_built 12 c.qubits 1)
+    (λ _. some_after IsNoFault _ _ (some_same c.qubits (length (input_for bits c.qubits)))
+    (λ _. some_after IsNoFault _ _ (some_simulates rules (input_for bits c.qubits) c.gates)
+    (λ _. some_hands_on IsNoFault _))))
 
 module _ (bits : Option (List Bool)) (rules : Settings) (text : List ℕ) where
   -- the text is refused

@@ -18,7 +18,7 @@ use Rattle.qasm_reader.proofs.EveryReading.{every_reading}
 use Rattle.sliq_engine.specs.declared.cause.Cause.TheVariants.{Refused, Unbuilt, QubitsDiffer}
 use Rattle.sliq_engine.specs.Steps.{Reads, SameQubits, cause_of, Simulates}
 use Rattle.sliq_engine.specs.Ending.{MayStopBy}
-use Rattle.sliq_engine.specs.Laws.{IsSure}
+use Rattle.sliq_engine.specs.Laws.{IsNoFault, IsSure}
 
 -- a text reads in one way
 pub one_reads : (file : ℕ) (text : List ℕ) → HasOneEnd IsSure (Reads file text)
@@ -33,10 +33,10 @@ one_reads file text (Err a) (Err b) p q s t =
     ap Err (p.2 ∙ ap (λ (r : Refusal). Refused file r) same ∙ sym q.2)
 
 -- and in some way
-pub some_reads : (file : ℕ) (text : List ℕ) → HasSomeEnd IsSure (Reads file text)
+pub some_reads : (file : ℕ) (text : List ℕ) → HasSomeEnd IsNoFault (Reads file text)
 some_reads file text = let r = every_reading 64 text in by r.0 r.1
   where
-    by : (reading : Reading) → ReadsAs text 64 reading → HasSomeEnd IsSure (Reads file text)
+    by : (reading : Reading) → ReadsAs text 64 reading → HasSomeEnd IsNoFault (Reads file text)
     by (circuit c) h = (Ok c, h, tt)
     by (refusal n why) h = let r : Refusal = record { statement = n; why = why } in (Err (Refused file r), (r, h, refl), tt)
 
@@ -45,26 +45,26 @@ pub one_simulates : (rules : Settings) (input : List Bool) (gates : List Gate) �
 one_simulates rules input gates = one_told IsSure cause_of (Walks dense_policy (begun input rules) gates) (one_dense (λ stop. IsSure (cause_of stop)) (begun input rules) gates)
 
 -- and to some end
-pub some_simulates : (rules : Settings) (input : List Bool) (gates : List Gate) → HasSomeEnd IsSure (Simulates dense_policy rules input gates)
+pub some_simulates : (rules : Settings) (input : List Bool) (gates : List Gate) → HasSomeEnd IsNoFault (Simulates dense_policy rules input gates)
 some_simulates rules input gates =
-    some_told IsSure cause_of (Walks dense_policy (begun input rules) gates) (some_dense (λ stop. IsSure (cause_of stop)) (λ number. tt) (begun input rules) gates)
+    some_told IsNoFault cause_of (Walks dense_policy (begun input rules) gates) (some_dense (λ stop. IsNoFault (cause_of stop)) (λ number. tt) (begun input rules) gates)
 
 -- the stop of a walk, as it is told
 pub simulation_stops : (policy : Policy) (rules : Settings) (input : List Bool) (gates : List Gate) (stop : Stop) → MayStop (Walks policy (begun input rules) gates) stop
     → MayStopBy (Simulates policy rules input gates) (cause_of stop)
 simulation_stops policy rules input gates (stops.Width gate) h = (stops.Width gate, h, refl)
-simulation_stops policy rules input gates (stops.Nodes gate order held) h = tt
+simulation_stops policy rules input gates (stops.Nodes gate order held) h = (stops.Nodes gate order held, h, refl)
 simulation_stops policy rules input gates stops.OutOfMemory h = tt
 
 pub one_same : (first second : ℕ) → HasOneEnd IsSure (SameQubits first second)
 one_same first second = one_stops_where IsSure (first ≢ second) (QubitsDiffer first second)
 
 -- two numbers of qubits are the same or they differ
-pub some_same : (first second : ℕ) → HasSomeEnd IsSure (SameQubits first second)
+pub some_same : (first second : ℕ) → HasSomeEnd IsNoFault (SameQubits first second)
 some_same first second =
-    some_stops_where IsSure (first ≢ second) (QubitsDiffer first second) tt (elim (cases_eq first second) [ inl e ↦ inr (λ other. other e) | inr other ↦ inl other ])
+    some_stops_where IsNoFault (first ≢ second) (QubitsDiffer first second) tt (elim (cases_eq first second) [ inl e ↦ inr (λ other. other e) | inr other ↦ inl other ])
 
 -- a circuit is built or it isn't
-pub some_built : (most n file : ℕ) → HasSomeEnd IsSure (StopsWhere (most < n) (Unbuilt file))
+pub some_built : (most n file : ℕ) → HasSomeEnd IsNoFault (StopsWhere (most < n) (Unbuilt file))
 some_built most n file =
-    some_stops_where IsSure (most < n) (Unbuilt file) tt (elim (cases_lt most n) [ inl h ↦ inl h | inr m ↦ inr (λ h. (let a = m in let b = h in omega arith)) ])
+    some_stops_where IsNoFault (most < n) (Unbuilt file) tt (elim (cases_lt most n) [ inl h ↦ inl h | inr m ↦ inr (λ h. (let a = m in let b = h in omega arith)) ])

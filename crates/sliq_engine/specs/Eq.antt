@@ -1,5 +1,5 @@
 -- `eq`.
-use Rattle.std.specs.Prelude.{◌≡◌, ◌≢◌, ℕ, ◌<◌, List, Ok, Err}
+use Rattle.std.specs.Prelude.{◌≡◌, ℕ, ◌<◌, List, Ok, Err}
 use Rattle.gate_set.specs.Circuits.{Circuit}
 use Rattle.circuit_model.specs.Product.{exponent}
 use Rattle.amp_dense.specs.Rules.{Settings}
@@ -12,8 +12,8 @@ use Rattle.comparison.specs.Steps.{steps_of}
 use Rattle.comparison.specs.Verdicts.{IsVerdict}
 use Rattle.phases.specs.Phases.{Phase, ◌>>=◌, ◌>>◌, StopsWhere}
 use Rattle.sliq_engine.specs.declared.cause.Cause.{Cause}
-use Rattle.sliq_engine.specs.declared.cause.Cause.TheVariants.{Done, Differs, Unbuilt, QubitsDiffer, Width}
-use Rattle.sliq_engine.specs.Steps.{Reads, Output, Writes}
+use Rattle.sliq_engine.specs.declared.cause.Cause.TheVariants.{Done, Differs, Unbuilt, Width}
+use Rattle.sliq_engine.specs.Steps.{Reads, SameQubits, Output, Writes}
 
 -- the steps of the comparison of two circuits fit the width; the stop is at the first after which the matrix doesn't
 abbrev pub Multiplies : Settings → Circuit → Circuit → Phase (Unit {0}) Cause
@@ -38,6 +38,6 @@ Compares rules one two = do
   v ← Reads 2 two
   StopsWhere (6 < u.qubits) (Unbuilt 1)
   StopsWhere (6 < v.qubits) (Unbuilt 2)
-  StopsWhere (u.qubits ≢ v.qubits) (QubitsDiffer u.qubits v.qubits)
+  SameQubits u.qubits v.qubits
   Multiplies rules u v
   Says u v

@@ -1,10 +1,10 @@
 -- How an end is told: the exit status, and the lines on err.
-use Rattle.std.specs.Prelude.{◌⊎◌, ℕ, List, [], ◌++◌, codes, Option}
+use Rattle.std.specs.Prelude.{◌⊎◌, ℕ, List, [], ◌++◌, codes, flat_map, Option}
 use Rattle.std.specs.Fmt.{decimal}
 use Rattle.outside.specs.Outside.{Rose}
 use Rattle.outside.specs.Bytes.{Added, AddedSome}
 use Rattle.sliq_engine.specs.declared.cause.Cause.{Cause}
-use Rattle.sliq_engine.specs.declared.cause.Cause.TheVariants.{Done, Differs, BadWords, ReadFault, TooLong, Refused, Unbuilt, QubitsDiffer, Width, WeightTooWide, WriteFault, OutOfMemory}
+use Rattle.sliq_engine.specs.declared.cause.Cause.TheVariants.{Done, Differs, BadWords, ReadFault, TooLong, Refused, Unbuilt, QubitsDiffer, Width, Nodes, WeightTooWide, WriteFault, OutOfMemory}
 use Rattle.sliq_engine.specs.Refusals.{reason_text}
 
 abbrev pub status_of : Cause → ℕ
@@ -17,9 +17,14 @@ status_of (Refused _ _) = 4
 status_of (Unbuilt _) = 4
 status_of (QubitsDiffer _ _) = 4
 status_of (Width _) = 5
+status_of (Nodes _ _ _) = 5
 status_of WeightTooWide = 5
 status_of WriteFault = 6
 status_of OutOfMemory = 7
+
+-- the variables, top first, each behind a blank
+abbrev pub order_text : List ℕ → List ℕ
+order_text order = flat_map (λ v. codes " " ++ decimal v) order
 
 abbrev pub lines_of : Cause → List ℕ
 lines_of Done = []
@@ -32,6 +37,8 @@ lines_of (Refused file r) = codes "sliq: file " ++ decimal file ++ codes " state
 lines_of (Unbuilt file) = codes "sliq: file " ++ decimal file ++ codes " not built yet\n"
 lines_of (QubitsDiffer first second) = codes "sliq: qubits differ: " ++ decimal first ++ codes " and " ++ decimal second ++ codes "\n"
 lines_of (Width step) = codes "sliq: width limit at step " ++ decimal step ++ codes "\n"
+lines_of (Nodes step order held) =
+    codes "sliq: node limit at step " ++ decimal step ++ codes ", held " ++ decimal held ++ codes ", order" ++ order_text order ++ codes "\n"
 lines_of WeightTooWide = codes "sliq: weight too wide\n"
 lines_of WriteFault = codes "sliq: write fault\n"
 lines_of OutOfMemory = codes "sliq: out of memory\n"

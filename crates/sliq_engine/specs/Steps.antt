@@ -10,7 +10,7 @@ use Rattle.qasm_reader.specs.declared.reason.Refusal.{Refusal}
 use Rattle.qasm_reader.specs.Reading.{ReadsAs, circuit, refusal}
 use Rattle.phases.specs.Phases.{Phase, HandsOn, StopsWhere, Told}
 use Rattle.sliq_engine.specs.declared.cause.Cause.{Cause}
-use Rattle.sliq_engine.specs.declared.cause.Cause.TheVariants.{Refused, QubitsDiffer, Width, OutOfMemory}
+use Rattle.sliq_engine.specs.declared.cause.Cause.TheVariants.{Refused, QubitsDiffer, Width, Nodes, OutOfMemory}
 
 -- the text of the file of this number reads as a circuit
 abbrev pub Reads : ℕ → List ℕ → Phase Circuit Cause
@@ -25,10 +25,10 @@ SameQubits first second = StopsWhere (first ≢ second) (QubitsDiffer first seco
 abbrev pub zeros : ℕ → List Bool
 zeros n = replicate n false
 
--- how a stop at a gate is told; with a list of all entries there are no nodes
+-- how a stop at a gate is told
 abbrev pub cause_of : Stop → Cause
 cause_of (stops.Width gate) = Width gate
-cause_of (stops.Nodes gate order held) = OutOfMemory
+cause_of (stops.Nodes gate order held) = Nodes gate order held
 cause_of stops.OutOfMemory = OutOfMemory
 
 -- gates come one after the other to a basis state

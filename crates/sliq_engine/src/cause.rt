@@ -4,12 +4,13 @@ ghost use Rattle.sliq_engine.specs.Status.{status_of};
 
 use crate::output::SendStop;
 use amp_dense::Stop;
+use bit_lists::Order;
 use dense_matrix::MatrixStop;
 use probabilities::WeighStop;
 use qasm_reader::Refusal;
 
 /// Why a run ended. Files are counted from 1.
-#[derive(Clone, Copy, Debug, PartialEq, Eq)]
+#[derive(Clone, Copy)]
 pub enum Cause {
     /// The whole output was written.
     Done,
@@ -29,6 +30,8 @@ pub enum Cause {
     QubitsDiffer { first: u8, second: u8 },
     /// At this gate of the circuit, or step of the comparison, counted from 1, a coefficient was wider than the rules allow.
     Width { step: u32 },
+    /// At this step the diagrams held as many nodes as the rules allow, with their variables in this order, and more were wanted.
+    Nodes { step: u32, order: Order, held: u32 },
     /// The weight of all states has a part without √2 of 2^127 or more.
     WeightTooWide,
     /// The output could not be written whole.
@@ -38,15 +41,15 @@ pub enum Cause {
 }
 
 /// The end of a run: the exit status and its cause.
-#[derive(Clone, Copy, Debug, PartialEq, Eq)]
+#[derive(Clone, Copy)]
 pub struct Ended {
     pub status: u8,
     pub cause: Cause,
 }
 
 impl Cause {
-    pub fn status(self) -> u8
-        ensures { result ≡ status_of self }
+    pub fn status(&self) -> u8
+        ensures { result ≡ status_of self.now }
     {
         match self {
             Cause::Done => 0,
@@ -57,7 +60,7 @@ impl Cause {
             | Cause::Refused { .. }
             | Cause::Unbuilt { .. }
             | Cause::QubitsDiffer { .. } => 4,
-            Cause::Width { .. } | Cause::WeightTooWide => 5,
+            Cause::Width { .. } | Cause::Nodes { .. } | Cause::WeightTooWide => 5,
             Cause::WriteFault => 6,
             Cause::OutOfMemory => 7,
         }
@@ -73,7 +76,12 @@ impl From<Stop> for Cause {
     fn from(stop: Stop) -> Self {
         match stop {
             Stop::Width { gate } => Cause::Width { step: gate },
-            Stop::Nodes { .. } | Stop::OutOfMemory => Cause::OutOfMemory,
+            Stop::Nodes { gate, order, held } => Cause::Nodes {
+                step: gate,
+                order,
+                held,
+            },
+            Stop::OutOfMemory => Cause::OutOfMemory,
         }
     }
 }

@@ -1,21 +1,18 @@
 //! `eq`: whether two circuits are the same up to a scalar.
-ghost use Rattle.std.specs.Prelude.{◌≡◌, ◌≢◌, ◌≤◌, length, IfErr, OnOk, OnErr, IsErrOf};
+ghost use Rattle.std.specs.Prelude.{◌≡◌, ◌≤◌, length, IfErr, OnOk, OnErr, IsErrOf};
 ghost use Rattle.outside.specs.Outside.{Rose};
 ghost use Rattle.outside.specs.Bytes.{Added, AddedSome};
-ghost use Rattle.phases.specs.Phases.{StopsWhere};
 ghost use Rattle.amp_printer.specs.Verdicts.{IsShort, verdict_text};
-ghost use Rattle.sliq_engine.specs.declared.cause.Cause.TheVariants.{QubitsDiffer};
 ghost use Rattle.sliq_engine.specs.Eq.{Compares, told_by};
-ghost use Rattle.sliq_engine.specs.Ending.{MayEnd, MayStopBy};
+ghost use Rattle.sliq_engine.specs.Ending.{MayEnd};
 
 use crate::cause::Cause;
 use crate::output::SendStop;
 use crate::reading::read_circuit;
-use crate::simulation::check_built;
+use crate::simulation::{check_built, check_qubits};
 use amp_dense::Rules;
 use amp_printer::{Verdict, verdict_text};
 use dense_matrix::compare;
-use gate_set::Circuit;
 use outside::{Sink, write_all};
 use std::alloc::Global;
 
@@ -42,23 +39,10 @@ pub fn eq<K: Sink>(
     let v = read_circuit(alloc, 2, two)?;
     check_built(&u, MATRIX_QUBITS, 1)?;
     check_built(&v, MATRIX_QUBITS, 2)?;
-    check_qubits(&u, &v)?;
+    check_qubits(u.qubits(), v.qubits())?;
     let verdict = compare(alloc, &u, &v, rules.width())?;
     send_verdict(out, &verdict)?;
     told(&verdict)?;
-    Ok(())
-}
-
-// Stops where the two circuits have different numbers of qubits.
-fn check_qubits(u: &Circuit, v: &Circuit) -> Result<(), Cause>
-    ensures same { OnOk result (u.now.qubits ≡ v.now.qubits) }
-    ensures stop { IfErr result (MayStopBy (StopsWhere (u.now.qubits ≢ v.now.qubits) (QubitsDiffer u.now.qubits v.now.qubits))) }
-{
-    let first = u.qubits();
-    let second = v.qubits();
-    if first != second {
-        return Err(Cause::QubitsDiffer { first, second });
-    }
     Ok(())
 }
 

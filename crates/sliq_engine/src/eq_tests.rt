@@ -1,7 +1,9 @@
 ghost use Rattle.std.specs.Prelude.{◌≤◌};
 
-use crate::tests::{CALM, Devices, repeated, run_on_files, run_on_stream};
-use crate::{Cause, Ended, eq_exactly};
+use crate::runs::{
+    CALM, Devices, H_H, ONE, alike, ended_by, repeated, run_on_files, run_on_stream,
+};
+use crate::{Cause, eq_exactly};
 use bit_lists::OutOfMemory;
 use qasm_reader::{Refusal, Why};
 
@@ -16,97 +18,96 @@ const COMPARE: [&str; 4] = ["sliq", "eq", "a", "b"];
 
 #[test]
 fn circuits_and_their_verdicts(rt: HostRuntime) -> Result<(), OutOfMemory> {
-    let rows: [(&[u8], &[u8], Cause, &[u8]); 15] = [
+    let rows: [(&[u8], &[u8], u8, &[u8]); 15] = [
         (
             b"OPENQASM 2.0; qreg q[1]; x q; z q;",
             b"OPENQASM 2.0; qreg q[1]; z q; x q;",
-            Cause::Done,
+            0,
             b"equivalent\nscalar (0,0,0,-1)/sqrt2^0\n",
         ),
         (
             b"OPENQASM 2.0; qreg q[1]; h q; s q; h q;",
             b"OPENQASM 2.0; qreg q[1]; rx(pi/2) q;",
-            Cause::Done,
+            0,
             b"equivalent\nscalar (0,0,1,0)/sqrt2^0\n",
         ),
-        (T, TDG, Cause::Differs, T_OUTPUT),
+        (T, TDG, 1, T_OUTPUT),
         (
             b"OPENQASM 2.0; qreg q[2]; swap q[0],q[1];",
             b"OPENQASM 2.0; qreg q[2]; cx q[0],q[1]; cx q[1],q[0]; cx q[0],q[1];",
-            Cause::Done,
+            0,
             b"equivalent\nscalar (0,0,0,1)/sqrt2^0\n",
         ),
         (
             b"OPENQASM 2.0; qreg q[1]; x q;",
             b"OPENQASM 2.0; qreg q[1];",
-            Cause::Differs,
+            1,
             b"differs\nrow 0 column 1\nvalue (0,0,0,1)/sqrt2^0\ncorner (0,0,0,0)/sqrt2^0\n",
         ),
         (
             b"OPENQASM 2.0; qreg q[2]; h q[1];",
             b"OPENQASM 2.0; qreg q[2];",
-            Cause::Differs,
+            1,
             b"differs\nrow 00 column 01\nvalue (0,0,0,1)/sqrt2^1\ncorner (0,0,0,1)/sqrt2^1\n",
         ),
         (
             b"OPENQASM 2.0; qreg q[2]; cx q[0],q[1];",
             b"OPENQASM 2.0; qreg q[2];",
-            Cause::Differs,
+            1,
             b"differs\nrow 10 column 10\nvalue (0,0,0,0)/sqrt2^0\ncorner (0,0,0,1)/sqrt2^0\n",
         ),
         (
             b"OPENQASM 2.0; qreg q[1]; rx(2*pi) q;",
             b"OPENQASM 2.0; qreg q[1];",
-            Cause::Done,
+            0,
             b"equivalent\nscalar (0,0,0,-1)/sqrt2^0\n",
         ),
         (
             b"OPENQASM 2.0; qreg q[1]; y q;",
             b"OPENQASM 2.0; qreg q[1]; x q; z q;",
-            Cause::Done,
+            0,
             b"equivalent\nscalar (0,-1,0,0)/sqrt2^0\n",
         ),
         (
             b"OPENQASM 2.0; qreg q[2]; s q[1]; cz q[0],q[1];",
             b"OPENQASM 2.0; qreg q[2]; cz q[0],q[1]; sdg q[1];",
-            Cause::Differs,
+            1,
             b"differs\nrow 01 column 01\nvalue (0,0,0,-1)/sqrt2^0\ncorner (0,0,0,1)/sqrt2^0\n",
         ),
         (
             b"OPENQASM 2.0;",
             b"OPENQASM 2.0;",
-            Cause::Done,
+            0,
             b"equivalent\nscalar (0,0,0,1)/sqrt2^0\n",
         ),
         (
             b"OPENQASM 2.0; qreg q[1]; creg c[1]; h q; measure q -> c;",
             b"OPENQASM 2.0; qreg r[1]; barrier r; h r;",
-            Cause::Done,
+            0,
             b"equivalent\nscalar (0,0,0,1)/sqrt2^0\n",
         ),
         (
             b"OPENQASM 2.0; qreg q[3]; ccx q[0],q[1],q[2];",
             b"OPENQASM 2.0; qreg q[3]; h q[2]; cx q[1],q[2]; tdg q[2]; cx q[0],q[2]; t q[2]; cx q[1],q[2]; tdg q[2]; cx q[0],q[2]; t q[1]; t q[2]; h q[2]; cx q[0],q[1]; t q[0]; tdg q[1]; cx q[0],q[1];",
-            Cause::Done,
+            0,
             b"equivalent\nscalar (0,0,0,1)/sqrt2^0\n",
         ),
         (
             b"OPENQASM 2.0; qreg q[6]; h q[0]; cx q[0],q[1]; cx q[1],q[2]; cx q[2],q[3]; cx q[3],q[4]; cx q[4],q[5];",
             b"OPENQASM 2.0; qreg q[6]; h q[5]; cx q[5],q[4]; cx q[4],q[3]; cx q[3],q[2]; cx q[2],q[1]; cx q[1],q[0];",
-            Cause::Differs,
+            1,
             b"differs\nrow 000000 column 011111\nvalue (0,0,0,1)/sqrt2^2\ncorner (0,0,0,1)/sqrt2^2\n",
         ),
         (
             b"OPENQASM 2.0; qreg q[6]; h q; t q;",
             b"OPENQASM 2.0; qreg q[6]; h q; t q;",
-            Cause::Done,
+            0,
             b"equivalent\nscalar (0,0,0,1)/sqrt2^0\n",
         ),
     ];
-    for (one, two, cause, output) in rows {
+    for (one, two, status, output) in rows {
         let ran = run_on_files(rt.alloc(), &COMPARE, &[one, two], CALM)?;
-        let status = if cause == Cause::Done { 0 } else { 1 };
-        assert_eq!(rt; ran.ended, Ended { status, cause }, "{one:?}");
+        assert_eq!(rt; ran.ended.status, status, "{one:?}");
         assert_eq!(rt; ran.out.written(), output, "{one:?}");
         assert_eq!(rt; ran.err.written(), b"".as_slice(), "{one:?}");
     }
@@ -170,7 +171,7 @@ fn circuits_that_are_not_compared(rt: HostRuntime) -> Result<(), OutOfMemory> {
     ];
     for (one, other, cause, lines) in rows {
         let ran = run_on_files(rt.alloc(), &COMPARE, &[one, other], CALM)?;
-        assert_eq!(rt; ran.ended, Ended { status: 4, cause });
+        assert!(rt; ended_by(&ran, 4, &cause));
         assert_eq!(rt; ran.out.written(), b"".as_slice());
         assert_eq!(rt; ran.err.written(), lines);
     }
@@ -182,7 +183,7 @@ fn circuits_that_are_not_compared(rt: HostRuntime) -> Result<(), OutOfMemory> {
     ];
     for words in bad_words {
         let ran = run_on_files(rt.alloc(), words, &[two, two], CALM)?;
-        assert_eq!(rt; ran.ended.cause, Cause::BadWords);
+        assert!(rt; ended_by(&ran, 2, &Cause::BadWords));
     }
     Ok(())
 }
@@ -210,7 +211,7 @@ fn a_width_limit_of_both_sides(rt: HostRuntime) -> Result<(), OutOfMemory> {
     for (one, two, step, lines) in rows {
         let ran = run_on_files(rt.alloc(), &COMPARE, &[one, two], CALM)?;
         let cause = Cause::Width { step };
-        assert_eq!(rt; ran.ended, Ended { status: 5, cause });
+        assert!(rt; ended_by(&ran, 5, &cause));
         assert_eq!(rt; ran.out.written(), b"".as_slice());
         assert_eq!(rt; ran.err.written(), lines);
     }
@@ -220,7 +221,7 @@ fn a_width_limit_of_both_sides(rt: HostRuntime) -> Result<(), OutOfMemory> {
         &[forth.as_slice(), forth.as_slice()],
         CALM,
     )?;
-    assert_eq!(rt; ran.ended.cause, Cause::Done);
+    assert!(rt; ended_by(&ran, 0, &Cause::Done));
     Ok(())
 }
 
@@ -237,7 +238,7 @@ fn each_read_of_two_files_fails_in_turn(rt: HostRuntime) -> Result<(), OutOfMemo
             Cause::Differs
         };
         let output = if fails { b"".as_slice() } else { T_OUTPUT };
-        assert_eq!(rt; ran.ended.cause, cause, "read {bad_read}");
+        assert!(rt; alike(&ran.ended.cause, &cause), "read {bad_read}");
         assert_eq!(rt; ran.out.written(), output, "read {bad_read}");
     }
     for bad_begin in 1..4 {
@@ -279,5 +280,28 @@ fn each_write_of_a_verdict_fails_in_turn(rt: HostRuntime) -> Result<(), OutOfMem
         assert_eq!(rt; ran.out.written(), &T_OUTPUT[..kept], "write {kept}");
     }
     eq_exactly();
+    Ok(())
+}
+
+// The options of `eq`. With two bits the first Hadamard fits, and the second doesn't.
+#[test]
+fn options_of_eq(rt: HostRuntime) -> Result<(), OutOfMemory> {
+    let same = b"equivalent\nscalar (0,0,0,1)/sqrt2^0\n".as_slice();
+    let rows: [(&[&str], u8, &[u8], &[u8]); 3] = [
+        (
+            &["sliq", "eq", "--width", "2", "a", "b"],
+            5,
+            b"",
+            b"sliq: width limit at step 2\n",
+        ),
+        (&["sliq", "eq", "a", "--width=3", "b"], 0, same, b""),
+        (&["sliq", "eq", "b", "--nodes=64", "b"], 0, same, b""),
+    ];
+    for (words, status, output, lines) in rows {
+        let ran = run_on_files(rt.alloc(), words, &[H_H, ONE], CALM)?;
+        assert_eq!(rt; ran.ended.status, status, "{words:?}");
+        assert_eq!(rt; ran.out.written(), output, "{words:?}");
+        assert_eq!(rt; ran.err.written(), lines, "{words:?}");
+    }
     Ok(())
 }

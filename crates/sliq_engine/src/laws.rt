@@ -10,7 +10,7 @@ ghost use Rattle.sliq_engine.specs.Comes.{Comes};
 ghost use Rattle.phases.specs.Phases.{Agree, HasOneEnd, HasSomeEnd};
 ghost use Rattle.sliq_words.specs.Asked.{Request, asked_of};
 ghost use Rattle.sliq_engine.specs.Commands.{CarriesOut};
-ghost use Rattle.sliq_engine.specs.Laws.{IsSure};
+ghost use Rattle.sliq_engine.specs.Laws.{IsNoFault, IsSure};
 ghost use Rattle.sliq_engine.specs.Steps.{Output, zeros};
 ghost use Rattle.sliq_engine.specs.Sim.{sim_output};
 ghost use Rattle.sliq_engine.specs.Eq.{Says};
@@ -19,17 +19,18 @@ ghost use Rattle.sliq_engine.specs.Demo.{demo_output, Demonstrates};
 use crate::cause::Cause;
 use gate_set::Kind;
 
-/// Whatever is asked for, on whatever texts, comes to one output at most, or to one cause.
+/// Whatever is asked for, on whatever texts, comes to one output at most, or to one cause, but for a want of nodes.
 pub fn one_end()
     ensures { (asked : Request) (texts : List (List ℕ)) → HasOneEnd IsSure (CarriesOut asked.task asked.rules texts) }
 {}
 
 /// And it comes to some output, or to some cause.
 pub fn some_end()
-    ensures { (asked : Request) (texts : List (List ℕ)) → HasSomeEnd IsSure (CarriesOut asked.task asked.rules texts) }
+    ensures { (asked : Request) (texts : List (List ℕ)) → HasSomeEnd IsNoFault (CarriesOut asked.task asked.rules texts) }
 {}
 
-/// Where a shelf in memory has the files of the words, a run on it comes to one output at most, or to one cause, but for faults of the shelf.
+/// Where a shelf in memory has the files of the words, a run on it comes to one output at most, or to one cause, but for faults of the shelf and a want of
+/// nodes.
 pub fn one_run()
     ensures { (words : List (List ℕ)) (old new other : Shelved) → ((asked : Request) → asked_of words ≡ Some asked → AllByRecursion (λ name. IsSome (text_of old name)) asked.files)
         → Agree IsSure (Comes memory words old new) (Comes memory words old other) }

@@ -22,10 +22,14 @@ pub use laws::{demo_is_never_refused, eq_exactly, one_end, one_run, small_output
 pub use top::{end, run};
 
 #[cfg(test)]
-mod eq_tests;
+mod demo_tests;
 #[cfg(test)]
-mod option_tests;
+mod end_tests;
+#[cfg(test)]
+mod eq_tests;
 #[cfg(test)]
 mod prob_tests;
 #[cfg(test)]
-mod tests;
+mod runs;
+#[cfg(test)]
+mod sim_tests;

@@ -1,5 +1,5 @@
-use crate::tests::{CALM, Devices, repeated, run_on};
-use crate::{Cause, Ended};
+use crate::Cause;
+use crate::runs::{CALM, Devices, H_H, H_T_H, alike, ended_by, repeated, run_on};
 use bit_lists::OutOfMemory;
 
 const COIN: &[u8] =
@@ -86,8 +86,7 @@ fn outcomes_and_their_weights(rt: HostRuntime) -> Result<(), OutOfMemory> {
     for (name, gates, marks, output) in rows {
         let text = repeated(rt.alloc(), gates, b"", 0, marks)?;
         let ran = run_on(rt.alloc(), &["sliq", "prob", "a"], &text, CALM)?;
-        assert_eq!(rt; ran.ended.cause, Cause::Done, "{name}");
-        assert_eq!(rt; ran.ended.status, 0, "{name}");
+        assert!(rt; ended_by(&ran, 0, &Cause::Done), "{name}");
         assert_eq!(rt; ran.out.written(), output, "{name}");
         assert_eq!(rt; ran.err.written(), b"".as_slice(), "{name}");
     }
@@ -101,18 +100,12 @@ fn weight_too_wide(rt: HostRuntime) -> Result<(), OutOfMemory> {
     let turn = b"t q[0];h q[0];t q[0];h q[0];\n".as_slice();
     let wide = repeated(rt.alloc(), head, turn, 125, b"")?;
     let ran = run_on(rt.alloc(), &["sliq", "prob", "a"], &wide, CALM)?;
-    assert_eq!(rt;
-        ran.ended,
-        Ended {
-            status: 5,
-            cause: Cause::WeightTooWide
-        }
-    );
+    assert!(rt; ended_by(&ran, 5, &Cause::WeightTooWide));
     assert_eq!(rt; ran.out.written(), b"".as_slice());
     assert_eq!(rt; ran.err.written(), b"sliq: weight too wide\n".as_slice());
     let narrow = repeated(rt.alloc(), head, turn, 124, b"")?;
     let ran = run_on(rt.alloc(), &["sliq", "prob", "a"], &narrow, CALM)?;
-    assert_eq!(rt; ran.ended.cause, Cause::Done);
+    assert!(rt; ended_by(&ran, 0, &Cause::Done));
     assert_eq!(rt;
         ran.out.written(),
         b"measured 1\n0 (36939738652164487894272861953882266861,-2543161634774962104947843921500248906)/2^125\n1 (5595557212952820038648963975088759571,2543161634774962104947843921500248906)/2^125\noutcomes 2\n".as_slice()
@@ -139,13 +132,13 @@ fn what_comes_before_weights(rt: HostRuntime) -> Result<(), OutOfMemory> {
     ];
     for (text, cause, lines) in rows {
         let ran = run_on(rt.alloc(), &["sliq", "prob", "a"], text, CALM)?;
-        assert_eq!(rt; ran.ended.cause, cause);
+        assert!(rt; alike(&ran.ended.cause, &cause));
         assert_eq!(rt; ran.out.written(), b"".as_slice());
         assert_eq!(rt; ran.err.written(), lines);
     }
     for words in [["sliq", "prob", "-a"], ["sliq", "probe", "a"]] {
         let ran = run_on(rt.alloc(), &words, COIN, CALM)?;
-        assert_eq!(rt; ran.ended.cause, Cause::BadWords);
+        assert!(rt; ended_by(&ran, 2, &Cause::BadWords));
     }
     Ok(())
 }
@@ -159,7 +152,7 @@ fn each_read_of_prob_fails_in_turn(rt: HostRuntime) -> Result<(), OutOfMemory> {
         let fails = bad_read <= 6;
         let cause = if fails { Cause::ReadFault } else { Cause::Done };
         let output = if fails { b"".as_slice() } else { COIN_OUTPUT };
-        assert_eq!(rt; ran.ended.cause, cause, "read {bad_read}");
+        assert!(rt; alike(&ran.ended.cause, &cause), "read {bad_read}");
         assert_eq!(rt; ran.out.written(), output, "read {bad_read}");
     }
     Ok(())
@@ -177,16 +170,36 @@ fn each_write_of_prob_fails_in_turn(rt: HostRuntime) -> Result<(), OutOfMemory> 
         let ran = run_on(rt.alloc(), &["sliq", "prob", "a"], COIN, devices)?;
         let kept = (bad_write - 1) as usize;
         if kept < COIN_OUTPUT.len() {
-            assert_eq!(rt; ran.ended.cause, Cause::WriteFault, "write {bad_write}");
+            assert!(rt; ended_by(&ran, 6, &Cause::WriteFault), "write {bad_write}");
             assert_eq!(rt;
                 ran.out.written(),
                 &COIN_OUTPUT[..kept],
                 "write {bad_write}"
             );
         } else {
-            assert_eq!(rt; ran.ended.cause, Cause::Done, "write {bad_write}");
+            assert!(rt; ended_by(&ran, 0, &Cause::Done), "write {bad_write}");
             assert_eq!(rt; ran.out.written(), COIN_OUTPUT);
         }
+    }
+    Ok(())
+}
+
+#[test]
+fn options_of_prob(rt: HostRuntime) -> Result<(), OutOfMemory> {
+    let outcomes = b"measured 1\n0 (2,1)/2^2\n1 (2,-1)/2^2\noutcomes 2\n".as_slice();
+    let rows: [(&[&str], &[u8], u8, &[u8]); 2] = [
+        (&["sliq", "prob", "a", "--width=2"], H_H, 5, b""),
+        (
+            &["sliq", "prob", "--sift", "1", "a", "--width=2"],
+            H_T_H,
+            0,
+            outcomes,
+        ),
+    ];
+    for (words, text, status, output) in rows {
+        let ran = run_on(rt.alloc(), words, text, CALM)?;
+        assert_eq!(rt; ran.ended.status, status, "{words:?}");
+        assert_eq!(rt; ran.out.written(), output, "{words:?}");
     }
     Ok(())
 }

@@ -49,7 +49,7 @@ pub fn end<E: Sink>(cause: Cause, err: &mut E) -> Ended
     ensures err { Tells (lines_of cause) (E.written err.old) (E.written err.new) (E.faults err.old) (E.faults err.new) }
     ensures counts { E.faults err.old ≤ E.faults err.new }
 {
-    let lines = lines_of(cause);
+    let lines = lines_of(&cause);
     let _ = write_all(err, lines.as_bytes());
     Ended {
         status: cause.status(),

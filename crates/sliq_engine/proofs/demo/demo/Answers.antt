@@ -1,12 +1,11 @@
-use Rattle.std.proofs.Common.{rules, ◌≡◌, ◌<◌, ℕ, Bool, false, List, Err, Ok, length, sym, ◌∙◌, ap, subst, arith}
+use Rattle.std.proofs.Common.{rules, ◌≡◌, Bool, false, List, Err, Ok, length, sym, ◌∙◌, ap, subst}
 use Rattle.std.specs.List.{range_with_len}
 use Rattle.std.proofs.lemmas.List.{length-replicate}
 use Rattle.gate_set.specs.Circuits.{Circuit}
-use Rattle.amp_dense.specs.Standing.{Standing, Walks, begun, dense_policy}
+use Rattle.amp_dense.specs.Standing.{Standing, begun, dense_policy}
 use Rattle.amp_dense.proofs.Walking.{walked}
 use Rattle.sliq_engine.specs.declared.output.SendStop.{SendStop}
 use Rattle.sliq_engine.specs.declared.cause.Cause.{Cause}
-use Rattle.sliq_engine.specs.declared.cause.Cause.TheVariants.{OutOfMemory}
 use Rattle.sliq_engine.specs.Steps.{zeros, Simulates}
 use Rattle.sliq_engine.specs.Ending.{MayEnd, MayStopBy}
 use Rattle.sliq_engine.specs.Demo.{Demonstrates}

@@ -1,9 +1,7 @@
-use Rattle.std.proofs.Common.{rules, ◌≡◌, ◌<◌, ◌≤◌, ℕ, List, Option, inl, inr, Err, Ok, sym, ◌∙◌, ap, subst, arith}
+use Rattle.std.proofs.Common.{rules, ◌≡◌, ◌<◌, ◌≤◌, ℕ, inl, inr, Err, sym, ◌∙◌, subst, arith}
 use Rattle.std.proofs.lemmas.Bool.{cases_lt}
 use Rattle.gate_set.specs.Circuits.{Circuit}
 use Rattle.circuit_model.specs.Product.{exponent}
-use Rattle.amp_dense.specs.Rules.{Settings}
-use Rattle.amp_printer.specs.declared.verdict.Verdict.{Verdict}
 use Rattle.comparison.specs.Scalars.{comparison, compared}
 use Rattle.comparison.specs.Products.{AllStepsFit}
 use Rattle.comparison.specs.Steps.{steps_of}
@@ -12,9 +10,9 @@ use Rattle.dense_matrix.specs.declared.comparing.MatrixStop.{MatrixStop}
 use Rattle.dense_matrix.specs.Stops.{StopMeans}
 use Rattle.sliq_engine.specs.declared.output.SendStop.{SendStop}
 use Rattle.sliq_engine.specs.declared.cause.Cause.{Cause}
-use Rattle.sliq_engine.specs.declared.cause.Cause.TheVariants.{Differs}
-use Rattle.sliq_engine.specs.Eq.{Compares, told_by}
-use Rattle.sliq_engine.specs.Ending.{MayEnd}
+use Rattle.sliq_engine.specs.Steps.{SameQubits}
+use Rattle.sliq_engine.specs.Eq.{Compares}
+use Rattle.sliq_engine.specs.Ending.{MayEnd, MayStopBy}
 use Rattle.sliq_engine.specs.Private.{cause_of_sending, cause_of_matrix}
 use Rattle.sliq_engine.proofs.EqLemmas.{eq_refused, eq_refused_second, eq_unbuilt, eq_unbuilt_second, eq_unlike, eq_halts, eq_stops, eq_done, eq_differs}
 use Rattle.sliq_engine.proofs.eq.eq.Goals as goal
@@ -45,9 +43,18 @@ returns-in_err-check_built-2-clause-stop g c =
 
 pub returns-in_err-check_qubits-clause-stop : goal.returns-in_err-check_qubits-clause-stop
 returns-in_err-check_qubits-clause-stop g c =
+    let u : Circuit = c.in_ok-u.u in
+    let v : Circuit = c.in_ok-v.v in
     let cause : Cause = c.in_err-check_qubits.field-0.0 in
     let told : c.from_residual-in_err-check_qubits.result ≡ Err cause = search rules in
-    rw told (eq_unlike c.args.rules.now c.args.one.now c.args.two.now c.in_ok-u.u c.in_ok-u.ensures.reads c.in_ok-v.v c.in_ok-v.ensures.reads c.in_ok-check_built.ensures.built c.in_ok-check_built-2.ensures.built cause (g.K.Sink.written c.args.out.now) c.in_err-check_qubits.ensures.stop)
+    let stop : MayStopBy (SameQubits u.qubits v.qubits) cause =
+    subst (λ (m : ℕ). MayStopBy (SameQubits m v.qubits) cause) c.qubits.ensures.value
+    (subst (λ (n : ℕ). MayStopBy (SameQubits c.qubits.result n) cause) c.qubits-2.ensures.value c.in_err-check_qubits.ensures.stop) in
+    rw told (eq_unlike c.args.rules.now c.args.one.now c.args.two.now u c.in_ok-u.ensures.reads v c.in_ok-v.ensures.reads c.in_ok-check_built.ensures.built c.in_ok-check_built-2.ensures.built cause (g.K.Sink.written c.args.out.now) stop)
+
+-- the two numbers of qubits, as they are read
+same_numbers : (m n first second : ℕ) → first ≡ m → second ≡ n → first ≡ second → m ≡ n
+same_numbers m n first second p q e = sym p ∙ e ∙ q
 
 -- what isn't more than another number is at most it
 at_most : (m n : ℕ) → ¬ (m < n) → n ≤ m
@@ -64,7 +71,7 @@ returns-in_err-verdict-clause-stop g c =
     let told : c.from_residual-in_err-verdict.result ≡ Err (cause_of_matrix stop) = search rules in
     let means : StopMeans c.args.rules.now.width u.qubits (steps_of u.gates v.gates) stop =
     subst (λ (w : ℕ). StopMeans w u.qubits (steps_of u.gates v.gates) stop) c.width.ensures.value c.in_err-verdict.ensures.stop in
-    rw told (eq_halts c.args.rules.now c.args.one.now c.args.two.now c.in_ok-u.u c.in_ok-u.ensures.reads c.in_ok-v.v c.in_ok-v.ensures.reads c.in_ok-check_built.ensures.built c.in_ok-check_built-2.ensures.built c.in_ok-check_qubits.ensures.same stop (g.K.Sink.written c.args.out.now) means)
+    rw told (eq_halts c.args.rules.now c.args.one.now c.args.two.now c.in_ok-u.u c.in_ok-u.ensures.reads c.in_ok-v.v c.in_ok-v.ensures.reads c.in_ok-check_built.ensures.built c.in_ok-check_built-2.ensures.built (same_numbers c.in_ok-u.u.qubits c.in_ok-v.v.qubits c.qubits.result c.qubits-2.result c.qubits.ensures.value c.qubits-2.ensures.value c.in_ok-check_qubits.ensures.same) stop (g.K.Sink.written c.args.out.now) means)
 
 pub send_verdict-requires : goal.send_verdict-requires
 send_verdict-requires g c =
@@ -81,7 +88,7 @@ returns-in_err-send_verdict-clause-stop g c =
     let told : c.from_residual-in_err-send_verdict.result ≡ Err (cause_of_sending stop) = search rules in
     let fits : AllStepsFit c.args.rules.now.width u.qubits (steps_of u.gates v.gates) =
     subst (λ (w : ℕ). AllStepsFit w u.qubits (steps_of u.gates v.gates)) c.width.ensures.value c.in_ok-verdict.ensures.fits in
-    rw told (eq_stops c.args.rules.now c.args.one.now c.args.two.now c.in_ok-u.u c.in_ok-u.ensures.reads c.in_ok-v.v c.in_ok-v.ensures.reads c.in_ok-check_built.ensures.built c.in_ok-check_built-2.ensures.built c.in_ok-check_qubits.ensures.same fits c.in_ok-verdict.verdict c.in_ok-verdict.ensures.verdict stop
+    rw told (eq_stops c.args.rules.now c.args.one.now c.args.two.now c.in_ok-u.u c.in_ok-u.ensures.reads c.in_ok-v.v c.in_ok-v.ensures.reads c.in_ok-check_built.ensures.built c.in_ok-check_built-2.ensures.built (same_numbers c.in_ok-u.u.qubits c.in_ok-v.v.qubits c.qubits.result c.qubits-2.result c.qubits.ensures.value c.qubits-2.ensures.value c.in_ok-check_qubits.ensures.same) fits c.in_ok-verdict.verdict c.in_ok-verdict.ensures.verdict stop
     (g.K.Sink.written c.args.out.now) (g.K.Sink.written c.send_verdict.new.out) c.in_err-send_verdict.ensures.err)
 
 pub returns-in_err-told-clause-stop : goal.returns-in_err-told-clause-stop
@@ -94,7 +101,7 @@ returns-in_err-told-clause-stop g c =
     subst (λ (w : ℕ). AllStepsFit w u.qubits (steps_of u.gates v.gates)) c.width.ensures.value c.in_ok-verdict.ensures.fits in
     let said = c.in_err-told.ensures.differs in
     let P : Cause → Type 0 = λ k. MayEnd (Compares c.args.rules.now c.args.one.now c.args.two.now) k (g.K.Sink.written c.args.out.now) (g.K.Sink.written c.send_verdict.new.out) in
-    rw told (subst P (sym said.1) (eq_differs c.args.rules.now c.args.one.now c.args.two.now c.in_ok-u.u c.in_ok-u.ensures.reads c.in_ok-v.v c.in_ok-v.ensures.reads c.in_ok-check_built.ensures.built c.in_ok-check_built-2.ensures.built c.in_ok-check_qubits.ensures.same fits c.in_ok-verdict.verdict c.in_ok-verdict.ensures.verdict
+    rw told (subst P (sym said.1) (eq_differs c.args.rules.now c.args.one.now c.args.two.now c.in_ok-u.u c.in_ok-u.ensures.reads c.in_ok-v.v c.in_ok-v.ensures.reads c.in_ok-check_built.ensures.built c.in_ok-check_built-2.ensures.built (same_numbers c.in_ok-u.u.qubits c.in_ok-v.v.qubits c.qubits.result c.qubits-2.result c.qubits.ensures.value c.qubits-2.ensures.value c.in_ok-check_qubits.ensures.same) fits c.in_ok-verdict.verdict c.in_ok-verdict.ensures.verdict
     (g.K.Sink.written c.args.out.now) (g.K.Sink.written c.send_verdict.new.out) (sym said.0 ∙ said.1) c.in_ok-send_verdict.ensures.ok))
 
 pub returns-clause-done : goal.returns-clause-done
@@ -103,5 +110,5 @@ returns-clause-done g c =
     let v : Circuit = c.in_ok-v.v in
     let fits : AllStepsFit c.args.rules.now.width u.qubits (steps_of u.gates v.gates) =
     subst (λ (w : ℕ). AllStepsFit w u.qubits (steps_of u.gates v.gates)) c.width.ensures.value c.in_ok-verdict.ensures.fits in
-    eq_done c.args.rules.now c.args.one.now c.args.two.now c.in_ok-u.u c.in_ok-u.ensures.reads c.in_ok-v.v c.in_ok-v.ensures.reads c.in_ok-check_built.ensures.built c.in_ok-check_built-2.ensures.built c.in_ok-check_qubits.ensures.same fits c.in_ok-verdict.verdict c.in_ok-verdict.ensures.verdict
+    eq_done c.args.rules.now c.args.one.now c.args.two.now c.in_ok-u.u c.in_ok-u.ensures.reads c.in_ok-v.v c.in_ok-v.ensures.reads c.in_ok-check_built.ensures.built c.in_ok-check_built-2.ensures.built (same_numbers c.in_ok-u.u.qubits c.in_ok-v.v.qubits c.qubits.result c.qubits-2.result c.qubits.ensures.value c.qubits-2.ensures.value c.in_ok-check_qubits.ensures.same) fits c.in_ok-verdict.verdict c.in_ok-verdict.ensures.verdict
     (g.K.Sink.written c.args.out.now) (g.K.Sink.written c.send_verdict.new.out) c.in_ok-told.ensures.done c.in_ok-send_verdict.ensures.ok

@@ -1,10 +1,9 @@
-use Rattle.std.proofs.Common.{◌++◌, ℕ, ◌≡◌, subst, sym, ap}
+use Rattle.std.proofs.Common.{◌++◌, ℕ, subst}
 use Rattle.amp_dense.specs.Standing.{vector}
 use Rattle.outside.specs.Bytes.{Added, AddedSome}
 use Rattle.outside.proofs.BufferingLemmas.{sent_then, sent_fault, some_front, some_of, flushed, flushed_some}
 use Rattle.amp_printer.specs.declared.counted.Counted.TheVariants.{Measured, Outcomes}
 use Rattle.amp_printer.specs.Texts.{count_line}
-use Rattle.probabilities.specs.Outcomes.{measured_count}
 use Rattle.sliq_engine.specs.Prob.{outcomes_output, outcome_listing, outcomes_of}
 use Rattle.sliq_engine.proofs.ListingLemmas.{on_err}
 use Rattle.sliq_engine.proofs.outcomes.send_outcomes.Goals as goal

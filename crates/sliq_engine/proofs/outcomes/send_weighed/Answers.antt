@@ -1,4 +1,4 @@
-use Rattle.std.proofs.Common.{rules, ◌≡◌, ◌≤◌, ◌<◌, ◌+◌, ◌^◌, ℕ, List, Bool, Some, None, length, replicate, false, refl, ap, sym, ◌∙◌, subst, arith}
+use Rattle.std.proofs.Common.{rules, ◌≡◌, ◌≤◌, ◌<◌, ◌+◌, ◌^◌, ℕ, List, Some, length, replicate, false, ap, sym, ◌∙◌, subst, arith}
 use Rattle.std.proofs.Math.Pow.{pow_mono}
 use Rattle.std.proofs.lemmas.List.{length-replicate}
 use Rattle.std.proofs.lemmas.List.Sums.{count_by-le-length}
@@ -8,7 +8,7 @@ use Rattle.amp_dense.specs.Standing.{vector}
 use Rattle.probabilities.specs.Outcomes.{measured_count}
 use Rattle.sliq_engine.proofs.ListingLemmas.{on_err}
 use Rattle.sliq_engine.proofs.WalkLemmas.{place_next}
-use Rattle.sliq_engine.proofs.OutcomeLines.{next_place, next_long, lines_first, count_first, lines_front, lines_whole, count_whole, sent_line, sent_front, counted_line, next_below, one_line, below}
+use Rattle.sliq_engine.proofs.OutcomeLines.{next_place, next_long, lines_first, count_first, lines_front, lines_whole, count_whole, sent_line, sent_front, counted_line, next_below, one_line}
 use Rattle.sliq_engine.proofs.outcomes.send_weighed.Goals as goal
 
 pub outcomes-init : goal.outcomes-init

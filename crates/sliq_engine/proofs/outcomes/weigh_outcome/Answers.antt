@@ -1,7 +1,6 @@
-use Rattle.std.proofs.Common.{◌≡◌, List, Bool, Option, Err, length, refl, sym, ◌∙◌, ap, subst}
+use Rattle.std.proofs.Common.{◌≡◌, Err, length, sym, ◌∙◌, ap}
 use Rattle.amp_dense.specs.Standing.{vector}
 use Rattle.probabilities.specs.Weighing.{weight_at, IsNarrow}
-use Rattle.probabilities.specs.Outcomes.{fixed_to}
 use Rattle.probabilities.proofs.WeighingLemmas.{narrow_part}
 use Rattle.probabilities.proofs.OutcomeLemmas.{length-fixed_to}
 use Rattle.sliq_engine.proofs.outcomes.weigh_outcome.Goals as goal

@@ -1,8 +1,7 @@
-use Rattle.std.proofs.Common.{rules, ◌≡◌, ◌^◌, ℕ, List, Bool, None, Err, length, replicate, refl, sym, ◌∙◌, ap, subst, arith, pos, ◌≤ℤ◌, ◌<ℤ◌}
+use Rattle.std.proofs.Common.{rules, ◌≡◌, None, Err, length, sym, ◌∙◌, ap}
 use Rattle.std.proofs.lemmas.List.{length-replicate}
 use Rattle.amp_dense.specs.Standing.{vector}
-use Rattle.ring_omega.specs.declared.weight.Weight.{Weight}
-use Rattle.probabilities.specs.Weighing.{weight_at, total_weight, IsNarrow}
+use Rattle.probabilities.specs.Weighing.{weight_at, total_weight}
 use Rattle.probabilities.proofs.WeighingLemmas.{all_free}
 use Rattle.sliq_engine.specs.Private.{cause_of_weighing}
 use Rattle.sliq_engine.proofs.ProbLemmas.{heavy_stop, light_end}

@@ -1,9 +1,8 @@
-use Rattle.std.proofs.Common.{rules, ◌≡◌, ◌<◌, ℕ, Bool, List, Err, Ok, length, replicate, false, sym, ◌∙◌, ap, subst, arith, map}
+use Rattle.std.proofs.Common.{rules, ◌≡◌, ℕ, Bool, List, Err, Ok, length, false, sym, ◌∙◌, ap, subst}
 use Rattle.std.specs.List.{range_with_len}
-use Rattle.std.proofs.lemmas.Int.{ints}
 use Rattle.std.proofs.lemmas.List.{length-replicate, length-map}
 use Rattle.gate_set.specs.Circuits.{Circuit}
-use Rattle.amp_dense.specs.Standing.{Standing, Walks, begun, vector, dense_policy}
+use Rattle.amp_dense.specs.Standing.{Standing, begun, vector, dense_policy}
 use Rattle.amp_dense.proofs.Walking.{walked}
 use Rattle.probabilities.specs.Outcomes.{counted}
 use Rattle.probabilities.specs.Weighing.{total_weight, IsNarrow}

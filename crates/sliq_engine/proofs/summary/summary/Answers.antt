@@ -1,4 +1,4 @@
-use Rattle.std.proofs.Common.{◌≡◌, ◌++◌, ◌∙◌, ap, length, ℕ, List}
+use Rattle.std.proofs.Common.{◌≡◌, ◌++◌, ◌∙◌, ap, length}
 use Rattle.amp_dense.specs.Standing.{vector}
 use Rattle.amp_printer.specs.declared.counted.Counted.TheVariants.{Qubits, Gates}
 use Rattle.amp_printer.specs.Texts.{count_line}
