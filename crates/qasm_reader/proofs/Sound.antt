@@ -21,7 +21,7 @@ use Rattle.qasm_reader.proofs.EveryReading.{version_or_not}
 
 -- a statement that nothing refuses stands in its place
 free_good : (limit : ℕ) (before : List Act) (part : Part) (s : Statement) → IsFree limit before part → Has before part s → IsGood before part s
-free_good limit before part s free h = record { has = h; one = λ o g. has_one before part o s g h; no_bad = no_bad part.bad refl; first = λ e. first e (version_or_not s) }
+free_good limit before part s free h = record { has = h; no_bad = no_bad part.bad refl; first = λ e. first e (version_or_not s) }
   where
     no_bad : (bad : Option ℕ) → part.bad ≡ bad → part.bad ≡ None
     no_bad None e = e
