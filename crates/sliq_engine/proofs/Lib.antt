@@ -5,6 +5,7 @@ mod Endings
 mod StepLemmas
 mod SimLemmas
 mod EqLemmas
+mod EqTexts
 mod OutcomeLines
 mod ProbLemmas
 mod CommandLemmas
