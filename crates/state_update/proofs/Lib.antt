@@ -1,1 +1,4 @@
+pub mod Ends
+pub mod GateSteps
+pub mod NodeLemmas
 pub mod StateLemmas
