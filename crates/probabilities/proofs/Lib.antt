@@ -1,2 +1,3 @@
 pub mod WeighingLemmas
 pub mod OutcomeLemmas
+pub mod PossibleLemmas

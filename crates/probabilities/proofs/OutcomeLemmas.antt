@@ -81,7 +81,7 @@ fixed_more whole p ms y i j k flag value lt long is within chosen next so_far = 
         ∙ ap (λ n. take (i + 1) (set p i value) ++ fixed_to (drop (i + 1) ms) (drop n y)) (let h : j ≡ k = omega arith in h)
 
 -- ---- a state and its outcome
-measured-cons : (b : Bool) (ms : List Bool) → measured_count (b ∷ ms) ≡ cond b 1 0 + measured_count ms
+pub measured-cons : (b : Bool) (ms : List Bool) → measured_count (b ∷ ms) ≡ cond b 1 0 + measured_count ms
 measured-cons b ms = sum_by-append (λ c. cond c 1 0) (b ∷ []) ms ∙ omega arith
 
 pub length-fixed_to : (ms y : List Bool) → length y ≡ measured_count ms → length (fixed_to ms y) ≡ length ms

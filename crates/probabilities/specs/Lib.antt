@@ -1,3 +1,4 @@
 pub mod Weighing
 pub mod Outcomes
+pub mod Possible
 pub mod Private

@@ -2,11 +2,13 @@
 #![tactic(auto)]
 
 mod laws;
+mod next;
 mod outcome;
 #[cfg(test)]
 mod tests;
 mod weigh;
 
 pub use laws::states_by_outcome;
+pub use next::next_outcome_dense;
 pub use outcome::{counted, fixed_to, measured_count};
-pub use weigh::{Weigh, WeighStop, weigh_dense};
+pub use weigh::{Weigh, WeighStop, plus, weigh_dense};

@@ -1,7 +1,11 @@
 ghost use Rattle.std.specs.Prelude.{◌≡◌, length, IfSome};
+ghost use Rattle.std.specs.Option.{option_copied, ForSome};
 ghost use Rattle.gate_set.specs.Shape.{IsOn};
+ghost use Rattle.probabilities.specs.Outcomes.{measured_count};
 
-use crate::{Weigh, WeighStop, counted, fixed_to, measured_count, states_by_outcome, weigh_dense};
+use crate::{
+    Weigh, WeighStop, counted, fixed_to, measured_count, plus, states_by_outcome, weigh_dense,
+};
 use amp_dense::{Amplitudes, DenseState, Rules};
 use bit_lists::{Bits, Partial};
 use gate_set::{Gate, Kind};
@@ -211,5 +215,61 @@ fn outcomes_of_some_qubits(rt: HostRuntime) -> Result<(), Fail> {
         }
     }
     states_by_outcome();
+    Ok(())
+}
+
+/// The state of `h` and `cx` on two of three qubits: 000 and 101.
+fn paired(alloc: Global) -> Option<DenseState>
+    ensures { IfSome result (λ s. length s.input ≡ 3) }
+{
+    let mut state = DenseState::start(alloc, &Bits::zeros(3), &Rules::usual()).ok()?;
+    let first = accepts(alloc, &mut state, &Gate::new(alloc, Kind::H, &[0]));
+    let second = accepts(alloc, &mut state, &Gate::new(alloc, Kind::Cx, &[0, 2]));
+    if first && second { Some(state) } else { None }
+}
+
+/// The outcome after the given one by the trait, where it fits.
+fn outcome_after<A: Weigh>(
+    alloc: Global,
+    state: &A,
+    measured: &Bits,
+    after: Option<&Bits>,
+) -> Option<Bits>
+    requires len { length measured.now ≡ length (A.standing state.now).input }
+    requires given { ForSome (option_copied after) (λ y. length y ≡ measured_count measured.now) }
+{
+    match state.next_outcome(alloc, measured, after) {
+        Ok(next) => next,
+        Err(_) => None,
+    }
+}
+
+// The place of the first outcome, and of the one after it, where there is one.
+#[test]
+fn possible_outcomes_in_order(rt: HostRuntime) -> Result<(), Fail> {
+    let rows: [(&[bool], Option<u128>, Option<u128>); 4] = [
+        (&[false, false, false], Some(0), Some(5)),
+        (&[true, false, true], Some(0), Some(3)),
+        (&[false, true, false], Some(0), None),
+        (&[false, true, true], Some(0), Some(1)),
+    ];
+    let state = paired(rt.alloc()).ok_or("no state")?;
+    for (flags, first, second) in rows {
+        let measured = counted(flags);
+        if measured.len() == 3 {
+            let y = outcome_after(rt.alloc(), &state, &measured, None);
+            assert_eq!(rt; y.map(|y| y.place()), first, "{flags:?}");
+            if let Some(y) = y {
+                if y.len() == measured_count(&measured) {
+                    let z = outcome_after(rt.alloc(), &state, &measured, Some(&y));
+                    assert_eq!(rt; z.map(|z| z.place()), second, "{flags:?}");
+                }
+            }
+        }
+    }
+    assert_eq!(rt;
+        plus(Weight { a: 2, b: 1 }, Weight { a: 3, b: -1 }),
+        Some(Weight { a: 5, b: 0 })
+    );
     Ok(())
 }
