@@ -1,11 +1,12 @@
 mod ListingLemmas
 mod MessageLemmas
 mod WalkLemmas
+mod FoundLemmas
 mod Endings
 mod StepLemmas
+mod SlicedWalks
 mod SimLemmas
 mod EqLemmas
-mod OutcomeLines
 mod ProbLemmas
 mod CommandLemmas
 mod TakingLemmas

@@ -24,7 +24,7 @@ use Rattle.ring_omega.specs.declared.weight.Weight.{Weight}
 use Rattle.sliq_engine.specs.Private.{cause_of_sending, cause_of_weighing}
 use Rattle.sliq_engine.specs.Laws.{IsNoFault, IsSure}
 use Rattle.sliq_engine.proofs.Endings.{ends_first, ends_after, ends_sending}
-use Rattle.sliq_engine.proofs.StepLemmas.{one_reads, some_reads, one_simulates, some_simulates, some_built}
+use Rattle.sliq_engine.proofs.StepLemmas.{one_reads, some_reads, one_dense_walk, some_dense_walk, some_built}
 
 two_sides : (z : ℤ) → (pos (2 ^ 127) ≤ℤ z) ⊎ (z <ℤ pos (2 ^ 127))
 two_sides z = grind (arith, ints)
@@ -55,7 +55,7 @@ pub one_weighs : (rules : Settings) (text : List ℕ) → HasOneEnd IsSure (Weig
 one_weighs rules text =
     one_after IsSure _ _ (one_reads 1 text)
     (λ c. one_after IsSure _ _ (one_stops_where IsSure (12 < c.qubits) (Unbuilt 1))
-    (λ _. one_after IsSure _ _ (one_simulates rules (zeros c.qubits) c.gates)
+    (λ _. one_after IsSure _ _ (one_dense_walk rules (zeros c.qubits) c.gates)
     (λ _. one_after IsSure _ _ (one_stops_where IsSure (IsHeavy c.qubits (work c.gates (zeros c.qubits)).entries) WeightTooWide)
     (λ _. one_hands_on IsSure _))))
 
@@ -63,7 +63,7 @@ pub some_weighs : (rules : Settings) (text : List ℕ) → HasSomeEnd IsNoFault 
 some_weighs rules text =
     some_after IsNoFault _ _ (some_reads 1 text)
     (λ c. some_after IsNoFault _ _ (some_built 12 c.qubits 1)
-    (λ _. some_after IsNoFault _ _ (some_simulates rules (zeros c.qubits) c.gates)
+    (λ _. some_after IsNoFault _ _ (some_dense_walk rules (zeros c.qubits) c.gates)
     (λ _. some_after IsNoFault _ _ (some_stops_where IsNoFault (IsHeavy c.qubits (work c.gates (zeros c.qubits)).entries) WeightTooWide tt (heavy_or_not (total_weight c.qubits (work c.gates (zeros c.qubits)).entries).a))
     (λ _. some_hands_on IsNoFault _))))
 

@@ -41,12 +41,12 @@ some_reads file text = let r = every_reading 64 text in by r.0 r.1
     by (refusal n why) h = let r : Refusal = record { statement = n; why = why } in (Err (Refused file r), (r, h, refl), tt)
 
 -- gates come to one end
-pub one_simulates : (rules : Settings) (input : List Bool) (gates : List Gate) → HasOneEnd IsSure (Simulates dense_policy rules input gates)
-one_simulates rules input gates = one_told IsSure cause_of (Walks dense_policy (begun input rules) gates) (one_dense (λ stop. IsSure (cause_of stop)) (begun input rules) gates)
+pub one_dense_walk : (rules : Settings) (input : List Bool) (gates : List Gate) → HasOneEnd IsSure (Simulates dense_policy rules input gates)
+one_dense_walk rules input gates = one_told IsSure cause_of (Walks dense_policy (begun input rules) gates) (one_dense (λ stop. IsSure (cause_of stop)) (begun input rules) gates)
 
 -- and to some end
-pub some_simulates : (rules : Settings) (input : List Bool) (gates : List Gate) → HasSomeEnd IsNoFault (Simulates dense_policy rules input gates)
-some_simulates rules input gates =
+pub some_dense_walk : (rules : Settings) (input : List Bool) (gates : List Gate) → HasSomeEnd IsNoFault (Simulates dense_policy rules input gates)
+some_dense_walk rules input gates =
     some_told IsNoFault cause_of (Walks dense_policy (begun input rules) gates) (some_dense (λ stop. IsNoFault (cause_of stop)) (λ number. tt) (begun input rules) gates)
 
 -- the stop of a walk, as it is told
