@@ -2,8 +2,11 @@
 #![tactic(auto)]
 
 mod sliced;
+mod weighing;
 
 pub use sliced::SlicedState;
 
 #[cfg(test)]
 mod tests;
+#[cfg(test)]
+mod weighing_tests;
