@@ -10,3 +10,4 @@ pub mod Positions
 pub mod Fits
 pub mod Values
 pub mod Verdicts
+pub mod TurnLemmas

@@ -2,3 +2,4 @@ pub mod Scalars
 pub mod Products
 pub mod Steps
 pub mod Verdicts
+pub mod Sides

@@ -1,4 +1,3 @@
 pub mod Splits
 pub mod Terms
-pub mod TurnLemmas
 pub mod Matrices

@@ -27,12 +27,9 @@ use Rattle.comparison.specs.Verdicts.{IsVerdict}
 use Rattle.comparison.proofs.Working.{times_step-same, work_matrix-last, work_matrix-value}
 use Rattle.comparison.proofs.Values.{SameValues, SameValues-sym}
 use Rattle.comparison.proofs.Verdicts.{verdict-same}
-use Rattle.dense_matrix.specs.declared.step.Side.{Side}
-use Rattle.dense_matrix.specs.declared.step.Side.TheVariants.{Left, Right}
-use Rattle.dense_matrix.specs.Sides.{step_of, lefts, rights}
 use Rattle.dense_matrix.specs.Kept.{Entries, IsMatrix}
 use Rattle.dense_matrix.proofs.Splits.{place_of-joined}
-use Rattle.dense_matrix.proofs.TurnLemmas.{take-next}
+use Rattle.comparison.proofs.TurnLemmas.{take-next}
 
 -- the entries of a list are those of w
 pub at-joined : (n : ℕ) (w : List Bool → Quad) (entries : List Quad) → entries ≡ map w (all_lists (n + n)) → (r c : List Bool) → length r ≡ n → length c ≡ n
@@ -81,14 +78,6 @@ step_matrix-exponent n w s =
     omega arith
 
 -- ---- the matrix after the steps so far, and one more
-pub gate_of-step_of : (side : Side) (g : Gate) → gate_of (step_of side g) ≡ g
-gate_of-step_of Left g = refl
-gate_of-step_of Right g = refl
-
-pub one_side : (side : Side) → lefts side + rights side ≡ 1
-one_side Left = refl
-one_side Right = refl
-
 module _ (n width : ℕ) (steps : List Step) (t : ℕ) (s : Step) (rest : List Step) (next : drop t steps ≡ s ∷ rest) (m : Entries) (same : m.qubits ≡ n)
     (kept : IsMatrix m (work_matrix n (take t steps))) where
   taken : take (t + 1) steps ≡ take t steps ++ s ∷ []
@@ -120,25 +109,6 @@ module _ (n width : ℕ) (steps : List Step) (t : ℕ) (s : Step) (rest : List S
     fails = λ fits. (let P : ℕ → Type 0 = λ q. FitsWidth (q + q) width (raw_matrix q (work_matrix n (take t steps)) s).entries in
         wide (work_matrix n (take t steps)) kept (subst P (sym same) fits));
   }
-
--- as many steps as gates
-length-mixed : (m p i j : ℕ) (us vs : List Gate) → length (mixed m p i j us vs) ≡ length us + length vs
-length-mixed m p i j [] [] = refl
-length-mixed m p i j (u ∷ us) [] = length-map (u ∷ us) left ∙ omega arith
-length-mixed m p i j [] (v ∷ vs) = length-map (v ∷ vs) (λ v. right (inverse_gate v)) ∙ omega arith
-length-mixed m p i j (u ∷ us) (v ∷ vs) =
-    by (nat_le (i * p) (j * m)) (length-mixed m p (i + 1) j us (v ∷ vs)) (length-mixed m p i (j + 1) (u ∷ us) vs)
-  where
-    by : (b : Bool) → length (mixed m p (i + 1) j us (v ∷ vs)) ≡ length us + suc (length vs) → length (mixed m p i (j + 1) (u ∷ us) vs) ≡ suc (length us) + length vs
-        → length (cond b (left u ∷ mixed m p (i + 1) j us (v ∷ vs)) (right (inverse_gate v) ∷ mixed m p i (j + 1) (u ∷ us) vs)) ≡ suc (length us) + suc (length vs)
-    by true l r = omega arith
-    by false l r = omega arith
-
-pub length-steps_of : (us vs : List Gate) → length (steps_of us vs) ≡ length us + length vs
-length-steps_of us vs = length-mixed (length us) (length vs) 0 0 us vs
-
-pub length-taken : (us vs : List Gate) (t : ℕ) → t ≤ length us + length vs → length (take t (steps_of us vs)) ≡ t
-length-taken us vs t le = let e = length-steps_of us vs in length-take-le t (steps_of us vs) (omega arith)
 
 -- ---- after all steps the list has the values of U·V†
 pub same_values : (n : ℕ) (us vs : List Gate) (entries : List Quad) → All (IsOn n) us → All (IsOn n) vs → entries ≡ map (work_matrix n (steps_of us vs)).entries (all_lists (n + n))

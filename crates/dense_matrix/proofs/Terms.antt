@@ -7,9 +7,10 @@ use Rattle.gate_set.specs.Matrix.{times_entry}
 use Rattle.circuit_model.specs.Product.{sum_over, applied}
 use Rattle.circuit_model.specs.Vector.{at}
 use Rattle.comparison.specs.Products.{right_product, times_step, by_position}
-use Rattle.dense_matrix.specs.declared.step.Side.{Side}
-use Rattle.dense_matrix.specs.declared.step.Side.TheVariants.{Left, Right}
-use Rattle.dense_matrix.specs.Sides.{step_of, own, put, entry_on}
+use Rattle.comparison.specs.declared.turns.Side.{Side}
+use Rattle.comparison.specs.declared.turns.Side.TheVariants.{Left, Right}
+use Rattle.comparison.specs.Sides.{step_of}
+use Rattle.dense_matrix.specs.Sides.{own, put, entry_on}
 
 -- one term
 unfoldable pub part : Side → Gate → List Quad → List Bool → List Bool → List Bool → Quad

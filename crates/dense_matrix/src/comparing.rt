@@ -10,10 +10,10 @@ ghost use Rattle.dense_matrix.specs.Stops.{StopMeans};
 ghost use Rattle.dense_matrix.specs.Kept.{IsMatrix};
 
 use crate::matrix::DenseMatrix;
-use crate::turns::{Turn, left_steps, next_turn, right_steps};
 use crate::witness::verdict_of;
 use amp_printer::Verdict;
 use bit_lists::OutOfMemory;
+use comparison::{Turn, left_steps, next_turn, right_steps};
 use gate_set::{Circuit, Gate};
 use std::alloc::Global;
 

@@ -7,7 +7,6 @@ mod places;
 mod step;
 #[cfg(test)]
 mod tests;
-mod turns;
 mod witness;
 
 pub use comparing::{MatrixStop, compare};

@@ -6,12 +6,13 @@ ghost use Rattle.gate_set.specs.Shape.{IsOn};
 ghost use Rattle.circuit_model.specs.Working.{Scaled, FitsWidth};
 ghost use Rattle.comparison.specs.Scalars.{scalar_entry};
 ghost use Rattle.comparison.specs.Products.{joined, raw_matrix, step_matrix, work_matrix};
-ghost use Rattle.dense_matrix.specs.Sides.{step_of};
+ghost use Rattle.comparison.specs.Sides.{step_of};
 ghost use Rattle.dense_matrix.specs.Kept.{IsMatrix};
 
 use crate::places::{column_place, row_place};
-use crate::step::{Side, write_raw};
+use crate::step::write_raw;
 use bit_lists::OutOfMemory;
+use comparison::Side;
 use gate_set::Gate;
 use quad_lists::halve_shared;
 use ring_omega::Quad;

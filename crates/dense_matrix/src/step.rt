@@ -8,19 +8,14 @@ ghost use Rattle.circuit_model.specs.Vector.{at};
 ghost use Rattle.circuit_model.specs.Working.{FitsWidth};
 ghost use Rattle.quad_lists.specs.Sums.{quad_value};
 ghost use Rattle.comparison.specs.Products.{times_step, joined, by_position};
-ghost use Rattle.dense_matrix.specs.Sides.{step_of, own, put, entry_on};
+ghost use Rattle.comparison.specs.Sides.{step_of};
+ghost use Rattle.dense_matrix.specs.Sides.{own, put, entry_on};
 
 use crate::places::{column_place, joined_place, row_place};
+use comparison::Side;
 use gate_set::{Entry, Gate};
 use quad_lists::{Bounds, ExactQuad, place_with, row_of};
 use ring_omega::Quad;
-
-/// The side from which a matrix is multiplied.
-#[derive(Clone, Copy, Debug, PartialEq, Eq)]
-pub enum Side {
-    Left,
-    Right,
-}
 
 /// Writes the entries after the step into `next`, as long as their coefficients fit the width, and says whether all did. The entry in a
 /// row and a column stands at the place of the row's bits and then the column's.

@@ -156,29 +156,53 @@ no_number : (o : Option ℕ) (n : ℕ) → o ≡ Some n → o ≡ None → ⊥
 no_number None n p q = absurd (cc)
 no_number (Some m) n p q = absurd (cc)
 
+-- the result n of the whole is put for other operands too
+pub record PutsHere (op : Operation) (d m : Diagram) (at : Operands) (n : ℕ) (old new : Results) (to : Operands) : Type 0 where
+  pub now : new to ≡ Some n
+  pub none : old to ≡ None
+  pub is : IsResult op m to n
+  pub deep : depths d to ≡ depths d at
+
+-- nothing changes for the operands, or the result is put
+abbrev pub PutsAs : Operation → Diagram → Diagram → Operands → ℕ → Results → Results → Operands → Type 0
+PutsAs op d m at n old new to = (new to ≡ old to) ⊎ PutsHere op d m at n old new to
+
+-- a result that is put for its operands alone
+pub puts_one : (op : Operation) (d m : Diagram) (at : Operands) (n : ℕ) (old new : Results) → IsResult op m at n → old at ≡ None → new at ≡ Some n → KeepsOthers at old new → (to : Operands) → PutsAs op d m at n old new to
+puts_one op d m at n old new is none here others to =
+    elim (cases_at at to) [
+      | inl e ↦
+          let same : to ≡ at = operands_eq at to e in
+          inr (record { now = ap new same ∙ here; none = ap old same ∙ none; is = rw same is; deep = ap (depths d) same })
+      | inr ne ↦ inl (others to ne)
+    ]
+
 -- the result of the whole is kept
-pub keeps_put : (op : Operation) (at : Operands) (d m : Diagram) (n : ℕ) (m0 m2 m3 : Results) → Keeps op at d m m0 m2 → IsResult op m at n → m2 at ≡ None → m3 at ≡ Some n → KeepsOthers at m2 m3 → Keeps op at d m m0 m3
-keeps_put op at d m n m0 m2 m3 kept is none here others = record {
+pub keeps_put_as : (op : Operation) (at : Operands) (d m : Diagram) (n : ℕ) (m0 m2 m3 : Results) → Keeps op at d m m0 m2 → ((to : Operands) → PutsAs op d m at n m2 m3 to) → Keeps op at d m m0 m3
+keeps_put_as op at d m n m0 m2 m3 kept puts = record {
   sound = kept.sound;
   extends = kept.extends;
   results = λ to i there.
-      elim (cases_at at to) [
-        | inl e ↦
-            let same : to ≡ at = operands_eq at to e in
-            let one : i ≡ n = some_number i n (sym there ∙ ap m3 same ∙ here) in
-            rw (one, same) is
-        | inr ne ↦ kept.results to i (sym (others to ne) ∙ there)
+      elim (puts to) [
+        | inl same ↦ kept.results to i (sym same ∙ there)
+        | inr put ↦
+            let one : i ≡ n = some_number i n (sym there ∙ put.now) in
+            rw one put.is
       ];
   higher = λ to live less.
-      elim (cases_at at to) [
-        | inl e ↦ let same : to ≡ at = operands_eq at to e in absurd (omega (arith, less, ap (depths d) same))
-        | inr ne ↦ others to ne ∙ kept.higher to live less
+      elim (puts to) [
+        | inl same ↦ same ∙ kept.higher to live less
+        | inr put ↦ absurd (omega (arith, less, put.deep))
       ];
   made = kept.made;
   still = λ to i was.
       let there = kept.still to i was in
-      elim (cases_at at to) [
-        | inl e ↦ absurd (no_number (m2 to) i there (ap m2 (operands_eq at to e) ∙ none))
-        | inr ne ↦ others to ne ∙ there
+      elim (puts to) [
+        | inl same ↦ same ∙ there
+        | inr put ↦ absurd (no_number (m2 to) i there put.none)
       ];
 }
+
+pub keeps_put : (op : Operation) (at : Operands) (d m : Diagram) (n : ℕ) (m0 m2 m3 : Results) → Keeps op at d m m0 m2 → IsResult op m at n → m2 at ≡ None → m3 at ≡ Some n → KeepsOthers at m2 m3 → Keeps op at d m m0 m3
+keeps_put op at d m n m0 m2 m3 kept is none here others =
+    keeps_put_as op at d m n m0 m2 m3 kept (puts_one op d m at n m2 m3 is none here others)

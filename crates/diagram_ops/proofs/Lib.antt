@@ -12,6 +12,7 @@ pub mod Restricting
 pub mod Results
 pub mod Right
 pub mod Shorts
+pub mod Sorting
 pub mod Splits
 pub mod Taking
 pub mod Variables

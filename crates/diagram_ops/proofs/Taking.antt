@@ -1,5 +1,6 @@
 -- The triples that a call meets, put together from those of its parts.
-use Rattle.std.proofs.Common.{◌≡◌, ◌⊎◌, ℕ, ◌+◌, ◌≤◌, Bool, true, false, List, [], ◌∷◌, ◌++◌, length, Option, Some, None, Result, Ok, Err, OnOk, OnErr, inl, inr, refl, sym, ◌∙◌, ap, arith, length-append}
+use Rattle.std.proofs.Common.{◌≡◌, ◌⊎◌, ℕ, ◌+◌, ◌≤◌, Bool, true, false, List, [], ◌∷◌, ◌++◌, length, Option, Some, None, Result, Ok, Err, OnOk, OnErr, IfErr, inl, inr, refl, sym, ◌∙◌, ap, subst, arith, length-append}
+use Rattle.std.specs.Prelude.{IsErrAnd}
 use Rattle.bit_lists.specs.Orders.{has, after}
 use Rattle.diagram_model.specs.Joint.{Trio, one_depends, fix_trio, IsTrioFrom}
 use Rattle.diagram_model.specs.Stores.{Diagram, IsSound, Extends, counted}
@@ -12,7 +13,7 @@ use Rattle.diagram_ops.specs.Keeping.{Keeps}
 use Rattle.diagram_ops.specs.Operands.{AreLive}
 use Rattle.diagram_ops.specs.Operations.{Operation, Results}
 use Rattle.diagram_ops.specs.Taken.{Reading, Kind, trio_by, IsMet, IsAmong, AreDistinct, Takes, TakesAll}
-use Rattle.diagram_ops.proofs.Calls.{Begins, KeepsOthers, cases_at, operands_eq, low_live, high_live_d}
+use Rattle.diagram_ops.proofs.Calls.{Begins, KeepsOthers, PutsAs, cases_at, operands_eq, low_live, high_live_d}
 use Rattle.diagram_ops.proofs.Readings.{IsRead, trio_on}
 use Rattle.diagram_ops.proofs.Results.{same_store, lives_on}
 
@@ -42,6 +43,11 @@ none_back (Some n) p on none = absurd (some_none p n (on n refl) none)
 pub at_stop : (r : Result Node StoreStop) (P : Type 0) → P → OnErr r P
 at_stop (Ok n) P h = tt
 at_stop (Err x) P h = h
+
+-- a refusal that is handed on says the same
+pub handed_on : (r : Result Node StoreStop) (x : StoreStop) (Q : StoreStop → Type 0) → IsErrAnd r (λ y. y ≡ x) → Q x → IfErr r Q
+handed_on (Ok n) x Q h q = tt
+handed_on (Err y) x Q h q = subst Q (sym h) q
 
 -- a later memo has each result of an earlier one
 abbrev pub Stays : Results → Results → Type 0
@@ -172,6 +178,20 @@ module _ (op : Operation) (r : Reading) (d : Diagram) (at : Operands) (s : Split
     ];
     count = omega (arith, t.takes.count, one);
     made = omega (arith, t.takes.made, one_more k m asked);
+  }
+
+  -- the result of the whole is kept, for other operands too
+  pub takes_put_as : (k m : Diagram) (m0 m2 m3 : Results) (n s0 s2 s3 : ℕ) → TakesAll (IsMet r d at) d k m0 m2 s0 s2 → IsSound k → IsSound m → Extends k m → Extends d m → m0 at ≡ None → m2 at ≡ None → s3 ≡ s2 + 1 → m.made ≡ counted k.made → m3 at ≡ Some n → ((to : Operands) → PutsAs op d m at n m2 m3 to) → TakesAll (IsMet r d at) d m m0 m3 s0 s3
+  unfolding takes_whole
+  takes_put_as k m m0 m2 m3 n s0 s2 s3 t sk sm ext dm new none one asked here puts = record {
+    takes = takes_whole k m m0 m2 s0 s2 s3 t sk sm ext dm new none one asked;
+    kept = λ to h. elim h [
+      | inl e ↦ (n, ap m3 e ∙ here)
+      | inr more ↦ elim (puts to) [
+        | inl same ↦ let was = t.kept to more in (was.0, same ∙ was.1)
+        | inr put ↦ (n, put.now)
+      ]
+    ];
   }
 
   -- the result of the whole is kept

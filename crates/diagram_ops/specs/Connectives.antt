@@ -6,6 +6,7 @@ use Rattle.diagram_model.specs.Functions.{Function}
 abbrev pub table_bit : ℕ → ℕ → ℕ → ℕ → ℕ
 table_bit t f g h = t / 2 ^ (4 * f + 2 * g + h) % 2
 
+-- a truth value as a number: 1 for true, 0 for false
 abbrev pub number : Bool → ℕ
 number b = cond b 1 0
 

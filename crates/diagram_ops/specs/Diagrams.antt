@@ -8,6 +8,8 @@ use Rattle.diagram_model.specs.Stores.{Diagram, IsLive, IsSound, function_of}
 use Rattle.node_store.specs.declared.node.Node.{Node}
 use Rattle.node_store.specs.declared.node.StoreStop.{StoreStop}
 use Rattle.diagram_ops.specs.Connectives.{connected}
+use Rattle.diagram_ops.specs.declared.operands.Operands.{Operands}
+use Rattle.diagram_ops.specs.Keys.{keyed}
 use Rattle.diagram_ops.specs.Made.{Property}
 
 -- a store, and the cache of its connectives
@@ -33,7 +35,9 @@ variable_of v = λ x. x v
 
 -- what the answer of a connective is kept under
 abbrev pub key_of : ℕ → ℕ → ℕ → ℕ → Key
-key_of t f g h = record { table = t; f = f; g = g; h = h }
+key_of t f g h =
+    let at : Operands = record { f = f; g = g; h = h } in
+    record { table = t; f = (keyed t at).f; g = (keyed t at).g; h = (keyed t at).h }
 
 -- an entry names live nodes only, and its value denotes its table's connective of its three functions
 pub record IsRight (d : Diagram) (e : Key × ℕ) : Type 0 where

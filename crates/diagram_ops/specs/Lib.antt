@@ -4,6 +4,7 @@ pub mod Cofactors
 pub mod Connectives
 pub mod Diagrams
 pub mod Flips
+pub mod Keys
 pub mod Lending
 pub mod Made
 -- Words of private functions:

@@ -1,10 +1,11 @@
 -- An operation on the functions of three nodes, and its results.
-use Rattle.std.specs.Prelude.{◌≡◌, ℕ, ◌<◌, Bool, true, cond, ◌&&◌, ◌==◌, List, Option, Some, None, slice_index_or}
+use Rattle.std.specs.Prelude.{◌≡◌, ◌≢◌, ◌⊎◌, ℕ, ◌<◌, Bool, true, cond, ◌&&◌, ◌==◌, List, Option, Some, None, slice_index_or}
 use Rattle.bit_lists.specs.Orders.{has}
 use Rattle.diagram_model.specs.Functions.{Function, fix}
 use Rattle.diagram_model.specs.Stores.{Diagram, IsLive, IsAbove, function_of}
 use Rattle.memos.specs.Memo.{Triple, found}
 use Rattle.diagram_ops.specs.declared.operands.Operands.{Operands}
+use Rattle.diagram_ops.specs.Keys.{keyed}
 use Rattle.diagram_ops.specs.Operands.{AreLive, AreAbove, depths}
 
 -- a function of three functions
@@ -33,6 +34,14 @@ Results = Operands → Option ℕ
 -- the results in a memo
 abbrev pub kept_in : List (Triple × ℕ) → Results
 kept_in es at = found es at.f at.g at.h
+
+-- the results of a table in a memo, each under the operands as the table's answers are kept
+abbrev pub kept_under : ℕ → List (Triple × ℕ) → Results
+kept_under t es at = kept_in es (keyed t at)
+
+-- the operands differ in a place
+abbrev pub AreOther : Operands → Operands → Type 0
+AreOther at to = (to.f ≢ at.f) ⊎ ((to.g ≢ at.g) ⊎ (to.h ≢ at.h))
 
 -- the results in a memo by the number of one node, with FALSE in the other two places
 abbrev pub fixed_in : List (Option ℕ) → Results

@@ -30,6 +30,19 @@ use steps::Steps;
 /// The table that is the second of three where the first is true, else the third.
 const CHOICE: u8 = 202;
 
+/// What the answer of a connective is kept under.
+fn key_for(table: u8, at: Operands) -> Key
+    ensures { result ≡ key_of table at.f at.g at.h }
+{
+    let at = at.keyed(table);
+    Key {
+        table,
+        f: at.f,
+        g: at.g,
+        h: at.h,
+    }
+}
+
 /// A store of nodes, with a cache of the answers of connectives.
 ///
 /// Each entry of the cache names live nodes only, and its value denotes its table's connective of its
@@ -273,7 +286,7 @@ impl Diagrams {
     /// functions have the values f, g and h.
     ///
     /// Asks the cache, then takes expected time in the triples of nodes that are met, and keeps its
-    /// answer in the cache. Takes new memory for nodes, for an entry of the cache that takes no other's
+    /// answer in the cache. Where T reads its operands in any order, one answer serves all orders. Takes new memory for nodes, for an entry of the cache that takes no other's
     /// place, and for more results than in any call before.
     pub fn apply3<const T: u8, L: Ledger>(
         &mut self,
@@ -300,21 +313,16 @@ impl Diagrams {
     {
         let _cached = self.cache.len();
         let _held = self.store.held();
-        let key = Key {
-            table: T,
-            f: f.0,
-            g: g.0,
-            h: h.0,
-        };
-        if let Some(node) = self.cache.look(&key) {
-            return Ok(Node(node));
-        }
-        self.memo.begin();
         let at = Operands {
             f: f.0,
             g: g.0,
             h: h.0,
         };
+        let key = key_for(T, at);
+        if let Some(node) = self.cache.look(&key) {
+            return Ok(Node(node));
+        }
+        self.memo.begin();
         let node = connect(&mut self.store, &mut self.memo, T, at, steps)?;
         self.cache.keep(key, node.0)?;
         Ok(node)

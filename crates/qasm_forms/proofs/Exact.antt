@@ -1,27 +1,19 @@
 -- Reading a statement is exact both ways.
-use Rattle.std.proofs.Common.{◌≡◌, ◌∙◌, sym, ap, refl, ℕ, Bool, List, [], ◌∷◌, ◌++◌, Option, Some, None, IfSome}
+use Rattle.std.proofs.Common.{◌≡◌, ◌∙◌, sym, ap, refl, ℕ, Bool, List, ◌∷◌, Option, Some, None, IfSome}
+use Rattle.std.proofs.lemmas.List.{append_cancel_right}
+use Rattle.std.proofs.lemmas.Option.{same_Some}
 use Rattle.qasm_lex.specs.Lexemes.{Lexeme, word}
 use Rattle.qasm_forms.specs.Statements.{Statement, first_word, written_rest, ended, written, IsStatement}
 use Rattle.qasm_forms.specs.declared.statement.Form.{Form}
 use Rattle.qasm_forms.specs.Cutting.{begins_left}
 use Rattle.qasm_forms.specs.Private.Parsing.{statement_at}
 use Rattle.qasm_forms.specs.Shown.{shown, shown_if}
-use Rattle.qasm_forms.proofs.Found.{some_same}
 use Rattle.qasm_forms.proofs.Forms.{statement_found}
 use Rattle.qasm_forms.proofs.Written.{statement_written}
 
--- lexemes with one more at their end
-last_off : (xs ys : List Lexeme) (l : Lexeme) → xs ++ l ∷ [] ≡ ys ++ l ∷ [] → xs ≡ ys
-last_off [] [] l e = refl
-last_off [] (y ∷ []) l e = absurd cc
-last_off [] (y ∷ z ∷ ys) l e = absurd cc
-last_off (x ∷ []) [] l e = absurd cc
-last_off (x ∷ w ∷ xs) [] l e = absurd cc
-last_off (x ∷ xs) (y ∷ ys) l e = let p : x ≡ y = cc in let q : xs ++ l ∷ [] ≡ ys ++ l ∷ [] = cc in ap (λ r. r ∷ xs) p ∙ ap (λ r. y ∷ r) (last_off xs ys l q)
-
 -- what stands before the end of a statement
 pub end_off : (ls : List Lexeme) (s : Statement) → ended ls ≡ written s → ls ≡ word (first_word s) ∷ written_rest s
-end_off ls s e = last_off ls (word (first_word s) ∷ written_rest s) _ e
+end_off ls s e = append_cancel_right ls (word (first_word s) ∷ written_rest s) _ e
 
 module _ (leaves : List ℕ → Bool) where
   -- a statement is read as it is written
@@ -41,4 +33,4 @@ module _ (leaves : List ℕ → Bool) where
   -- no two statements are written alike
   pub statements_same : (s t : Statement) → IsStatement leaves s → IsStatement leaves t → written s ≡ written t → s ≡ t
   statements_same s t f g e =
-      some_same s t (sym (read_as (word (first_word s) ∷ written_rest s) s f refl) ∙ read_as (word (first_word s) ∷ written_rest s) t g e)
+      same_Some s t (sym (read_as (word (first_word s) ∷ written_rest s) s f refl) ∙ read_as (word (first_word s) ∷ written_rest s) t g e)

@@ -2,57 +2,34 @@
 use Rattle.std.proofs.Common.{◌≡◌, ◌∙◌, sym, ap, refl, subst, ◌<◌, ℕ, Bool, true, false, cond, nat_eq, List, [], ◌∷◌, length, arith, Option, Some, None}
 use Rattle.std.specs.List.{AllByRecursion}
 use Rattle.qasm_forms.specs.declared.lexemes.Stop.TheVariants.{Comma}
-use Rattle.qasm_lex.specs.Lexemes.{Lexeme, word, whole, real, quoted, arrow, equal, mark}
+use Rattle.qasm_lex.specs.Lexemes.{Lexeme, word, whole, mark}
 use Rattle.qasm_forms.specs.Statements.{Argument, IsArgument, AreArguments, written_argument, written_index, written_each, listed, is_name}
 use Rattle.qasm_forms.specs.Private.Fronts.{and_then, name_at, digits_at, mark_at, at_end, index_at}
 use Rattle.qasm_forms.specs.Cutting.{is_stop, before_stop, has_stop, after_stop}
 use Rattle.qasm_forms.specs.Private.Parsing.{lead, split, indexed, argument_at, gather, arguments_at, declaration_at}
 use Rattle.qasm_forms.proofs.Listed.{split_cut}
+use Rattle.qasm_forms.proofs.Nesting.{mark_is, listed_led}
 use Rattle.std.proofs.lemmas.Bool.{eqb-true}
+use Rattle.std.proofs.lemmas.Option.{cond_some, same_Some}
 
 -- a step that was taken
 pub and_then_some : {A B : Type 0} (o : Option A) (f : A → Option B) (b : B) → and_then o f ≡ Some b → (a : A) × (o ≡ Some a) × (f a ≡ Some b)
 and_then_some None f b e = absurd cc
 and_then_some (Some a) f b e = (a, refl, e)
 
-pub cond_some : {A : Type 0} (t : Bool) (x y : A) → cond t (Some x) None ≡ Some y → (t ≡ true) × (x ≡ y)
-cond_some true x y e = (refl, cc)
-cond_some false x y e = absurd cc
-
-pub some_same : {A : Type 0} (x y : A) → Some x ≡ Some y → x ≡ y
-some_same x y e = cc
-
 pub name_found : (ls : List Lexeme) (p : List ℕ × List Lexeme) → name_at ls ≡ Some p → (ls ≡ word p.0 ∷ p.1) × (is_name p.0 ≡ true)
-name_found [] p e = absurd cc
 name_found (word b ∷ ls) p e =
     let c = cond_some (is_name b) (b, ls) p e in
     (ap (λ (q : List ℕ × List Lexeme). word q.0 ∷ q.1) c.1, ap is_name (ap (λ (q : List ℕ × List Lexeme). q.0) (sym c.1)) ∙ c.0)
-name_found (whole b ∷ ls) p e = absurd cc
-name_found (real b ∷ ls) p e = absurd cc
-name_found (quoted b ∷ ls) p e = absurd cc
-name_found (arrow ∷ ls) p e = absurd cc
-name_found (equal ∷ ls) p e = absurd cc
-name_found (mark b ∷ ls) p e = absurd cc
+name_found _ p e = absurd cc
 
 pub digits_found : (ls : List Lexeme) (p : List ℕ × List Lexeme) → digits_at ls ≡ Some p → ls ≡ whole p.0 ∷ p.1
-digits_found [] p e = absurd cc
-digits_found (word b ∷ ls) p e = absurd cc
-digits_found (whole b ∷ ls) p e = ap (λ (q : List ℕ × List Lexeme). whole q.0 ∷ q.1) (some_same (b, ls) p e)
-digits_found (real b ∷ ls) p e = absurd cc
-digits_found (quoted b ∷ ls) p e = absurd cc
-digits_found (arrow ∷ ls) p e = absurd cc
-digits_found (equal ∷ ls) p e = absurd cc
-digits_found (mark b ∷ ls) p e = absurd cc
+digits_found (whole b ∷ ls) p e = ap (λ (q : List ℕ × List Lexeme). whole q.0 ∷ q.1) (same_Some (b, ls) p e)
+digits_found _ p e = absurd cc
 
 pub mark_found : (b : ℕ) (ls r : List Lexeme) → mark_at b ls ≡ Some r → ls ≡ mark b ∷ r
-mark_found b [] r e = absurd cc
-mark_found b (word m ∷ ls) r e = absurd cc
-mark_found b (whole m ∷ ls) r e = absurd cc
-mark_found b (real m ∷ ls) r e = absurd cc
-mark_found b (quoted m ∷ ls) r e = absurd cc
-mark_found b (arrow ∷ ls) r e = absurd cc
-mark_found b (equal ∷ ls) r e = absurd cc
 mark_found b (mark c ∷ ls) r e = let p = cond_some (nat_eq c b) ls r e in let q : c ≡ b = eqb-true c b p.0 in cc
+mark_found b _ r e = absurd cc
 
 pub end_found : {A : Type 0} (x y : A) (ls : List Lexeme) → at_end x ls ≡ Some y → (ls ≡ []) × (x ≡ y)
 end_found x y [] e = (refl, cc)
@@ -72,16 +49,16 @@ declaration_found ls p e =
     let s = and_then_some (name_at ls) (λ n. and_then (index_at n.1) (λ d. Some (n.0, d))) p e in
     let t = and_then_some (index_at s.0.1) (λ d. Some (s.0.0, d)) p s.2 in
     let n = name_found ls s.0 s.1 in
-    let q : (s.0.0, t.0) ≡ p = some_same (s.0.0, t.0) p t.2 in (
+    let q : (s.0.0, t.0) ≡ p = same_Some (s.0.0, t.0) p t.2 in (
       n.0 ∙ ap (λ r. word s.0.0 ∷ r) (index_found s.0.1 t.0 t.1) ∙ ap (λ (r : List ℕ × List ℕ). word r.0 ∷ mark 91 ∷ whole r.1 ∷ mark 93 ∷ []) q,
       ap is_name (ap (λ (r : List ℕ × List ℕ). r.0) (sym q)) ∙ n.1,
     )
 
 indexed_found : (name : List ℕ) (ls : List Lexeme) (a : Argument) → indexed name ls ≡ Some a → (a.name ≡ name) × (ls ≡ written_index a.index)
-indexed_found name [] a e = let q : record { name = name; index = None } ≡ a = some_same _ a e in (sym (ap (λ (r : Argument). r.name) q), ap (λ (r : Argument). written_index r.index) q)
+indexed_found name [] a e = let q : record { name = name; index = None } ≡ a = same_Some _ a e in (sym (ap (λ (r : Argument). r.name) q), ap (λ (r : Argument). written_index r.index) q)
 indexed_found name (l ∷ ls) a e =
     let s = and_then_some (index_at (l ∷ ls)) (λ d. Some (record { name = name; index = Some d })) a e in
-    let q : record { name = name; index = Some s.0 } ≡ a = some_same _ a s.2 in
+    let q : record { name = name; index = Some s.0 } ≡ a = same_Some _ a s.2 in
     (sym (ap (λ (r : Argument). r.name) q), index_found (l ∷ ls) s.0 s.1 ∙ ap (λ (r : Argument). written_index r.index) q)
 
 pub argument_found : (ls : List Lexeme) (a : Argument) → argument_at ls ≡ Some a → (ls ≡ written_argument a) × IsArgument a
@@ -99,22 +76,9 @@ gather_found (p ∷ ps) all e =
     let t = and_then_some (gather ps) (λ more. Some (s.0 ∷ more)) all s.2 in
     let a = argument_found p s.0 s.1 in
     let m = gather_found ps t.0 t.1 in
-    let q : s.0 ∷ t.0 ≡ all = some_same _ all t.2 in
+    let q : s.0 ∷ t.0 ≡ all = same_Some _ all t.2 in
     subst (λ (all : List Argument). (p ∷ ps ≡ written_each all) × AllByRecursion IsArgument all) q
     (ap (λ x. x ∷ ps) a.0 ∙ ap (λ r. written_argument s.0 ∷ r) m.0, (a.1, m.1))
-
-stop_comma : (l : Lexeme) → is_stop Comma l ≡ true → l ≡ mark 44
-stop_comma (word m) e = absurd cc
-stop_comma (whole m) e = absurd cc
-stop_comma (real m) e = absurd cc
-stop_comma (quoted m) e = absurd cc
-stop_comma arrow e = absurd cc
-stop_comma equal e = absurd cc
-stop_comma (mark c) e = ap mark (eqb-true c 44 e)
-
-listed_lead : (l : Lexeme) (x : List Lexeme) (xs : List (List Lexeme)) → listed (lead l (x ∷ xs)) ≡ l ∷ listed (x ∷ xs)
-listed_lead l x [] = refl
-listed_lead l x (y ∷ ys) = refl
 
 -- some part, and others
 record Begun (ps : List (List Lexeme)) : Type 0 where
@@ -133,10 +97,10 @@ split_joined (l ∷ ls) = by (is_stop Comma l) refl (split_begun ls) (split_join
     by : (x : Bool) → is_stop Comma l ≡ x → Begun (split ls) → listed (split ls) ≡ ls → listed (split (l ∷ ls)) ≡ l ∷ ls
     by true e b more =
         ap (λ x. listed (cond x ([] ∷ split ls) (lead l (split ls)))) e ∙ ap (λ r. listed ([] ∷ r)) b.are
-        ∙ ap (λ r. mark 44 ∷ r) (sym (ap listed b.are) ∙ more) ∙ ap (λ x. x ∷ ls) (sym (stop_comma l e))
+        ∙ ap (λ r. mark 44 ∷ r) (sym (ap listed b.are) ∙ more) ∙ ap (λ x. x ∷ ls) (sym (mark_is 44 l e))
     by false e b more =
         ap (λ x. listed (cond x ([] ∷ split ls) (lead l (split ls)))) e ∙ ap (λ r. listed (lead l r)) b.are
-        ∙ listed_lead l b.first b.more ∙ ap (λ r. l ∷ r) (sym (ap listed b.are) ∙ more)
+        ∙ listed_led l b.first b.more ∙ ap (λ r. l ∷ r) (sym (ap listed b.are) ∙ more)
 
 each_some : (all : List Argument) (x : List Lexeme) (xs : List (List Lexeme)) → x ∷ xs ≡ written_each all → 0 < length all
 each_some [] x xs e = absurd cc

@@ -1,7 +1,7 @@
 pub mod Tokens
 pub mod Listed
-pub mod Found
 pub mod Nesting
+pub mod Found
 pub mod Forms
 pub mod Written
 pub mod Exact

@@ -1,16 +1,12 @@
 -- Parentheses of angles: the scan of an angle ends where its parentheses balance.
 use Rattle.std.proofs.Common.{◌≡◌, ◌∙◌, sym, ap, refl, subst, ◌≤◌, ◌<◌, ℕ, zero, suc, ◌+◌, ◌-◌, Bool, true, false, cond, ◌||◌, ◌&&◌, nat_eq, List, [], ◌∷◌, ◌++◌, length, filter, arith, Option, Some, None}
 use Rattle.std.specs.List.{AllByRecursion}
-use Rattle.std.proofs.lemmas.Bool.{eqb-true}
-use Rattle.qasm_lex.specs.Lexemes.{Lexeme, word, whole, real, quoted, arrow, equal, mark}
+use Rattle.std.proofs.lemmas.Bool.{eqb-true, and_parts, false_from_ne_true}
+use Rattle.qasm_lex.specs.Lexemes.{Lexeme, mark}
 use Rattle.qasm_forms.specs.Statements.{is_mark}
 use Rattle.qasm_forms.specs.Statements.{listed, opening, closing}
 use Rattle.qasm_forms.specs.Private.Fronts.{ends_angle, deeper}
 use Rattle.qasm_forms.specs.Private.Parsing.{lead, lead_angle, next_angle, scan}
-
-one : Bool → ℕ
-one true = 1
-one false = 0
 
 -- a part of an angle, where so many parentheses are open before it
 pub record IsPart (depth : ℕ) (a : List Lexeme) : Type 0 where
@@ -18,20 +14,12 @@ pub record IsPart (depth : ℕ) (a : List Lexeme) : Type 0 where
   pub nested : (before after : List Lexeme) → a ≡ before ++ after → closing before ≤ depth + opening before
   pub inside : (before after : List Lexeme) → a ≡ before ++ (mark 44 ∷ after) → closing before < depth + opening before
 
-count_lead : (p : Lexeme → Bool) (l : Lexeme) (a : List Lexeme) (n : ℕ) → p l ≡ true → n ≡ 1 → length (filter p (l ∷ a)) ≡ n + length (filter p a)
-count_lead p l a n e m = ap (λ x. length (cond x (l ∷ filter p a) (filter p a))) e ∙ omega arith
-
 count_skip : (p : Lexeme → Bool) (l : Lexeme) (a : List Lexeme) → p l ≡ false → length (filter p (l ∷ a)) ≡ length (filter p a)
 count_skip p l a e = ap (λ x. length (cond x (l ∷ filter p a) (filter p a))) e
 
-mark_is : (b : ℕ) (l : Lexeme) → is_mark b l ≡ true → l ≡ mark b
-mark_is b (word m) e = absurd cc
-mark_is b (whole m) e = absurd cc
-mark_is b (real m) e = absurd cc
-mark_is b (quoted m) e = absurd cc
-mark_is b arrow e = absurd cc
-mark_is b equal e = absurd cc
+pub mark_is : (b : ℕ) (l : Lexeme) → is_mark b l ≡ true → l ≡ mark b
 mark_is b (mark c) e = ap mark (eqb-true c b e)
+mark_is b _ e = absurd cc
 
 -- how a lexeme changes the depth
 record Levels (depth : ℕ) (l : Lexeme) : Type 0 where
@@ -60,19 +48,16 @@ levels_other depth l e f = record {
   level = let q = ap (λ x. cond x (depth + 1) (cond (is_mark 41 l) (depth - 1) depth)) e ∙ ap (λ x. cond x (depth - 1) depth) f in omega arith;
 }
 
-ends_at : (depth : ℕ) (l : Lexeme) → ends_angle depth l ≡ false → is_mark 41 l ≡ true → nat_eq depth 0 ≡ false
-ends_at depth l e m = by (nat_eq depth 0) (ap (λ x. nat_eq depth 0 && (x || is_mark 44 l)) (sym m) ∙ e)
-  where
-    by : (x : Bool) → x && true ≡ false → x ≡ false
-    by true h = absurd cc
-    by false h = refl
+left_false : (x y : Bool) → y ≡ true → x && y ≡ false → x ≡ false
+left_false true y e h = absurd (let q : true ≡ false = sym e ∙ h in cc)
+left_false false y e h = refl
 
 levels : (depth : ℕ) (l : Lexeme) → ends_angle depth l ≡ false → Levels depth l
 levels depth l e = by (is_mark 40 l) refl (is_mark 41 l) refl
   where
     by : (x : Bool) → is_mark 40 l ≡ x → (y : Bool) → is_mark 41 l ≡ y → Levels depth l
     by true h y g = levels_open depth l (mark_is 40 l h)
-    by false h true g = levels_close depth l (mark_is 41 l g) (not_zero depth (ends_at depth l e g))
+    by false h true g = levels_close depth l (mark_is 41 l g) (not_zero depth (left_false (nat_eq depth 0) _ (ap (λ x. x || is_mark 44 l) g) e))
     by false h false g = levels_other depth l h g
 
 part_none : IsPart 0 []
@@ -87,11 +72,7 @@ part_none = record { closed = refl; nested = nested; inside = inside }
     inside (b ∷ bs) after e = absurd cc
 
 comma_inside : (depth : ℕ) (l : Lexeme) → ends_angle depth l ≡ false → l ≡ mark 44 → 0 < depth
-comma_inside depth l e f = let q : ends_angle depth (mark 44) ≡ false = subst (λ l. ends_angle depth l ≡ false) f e in not_zero depth (by (nat_eq depth 0) q)
-  where
-    by : (x : Bool) → x && true ≡ false → x ≡ false
-    by true h = absurd cc
-    by false h = refl
+comma_inside depth l e f = not_zero depth (left_false (nat_eq depth 0) true refl (subst (λ l. ends_angle depth l ≡ false) f e))
 
 part_lead : (depth : ℕ) (l : Lexeme) (a : List Lexeme) → ends_angle depth l ≡ false → IsPart (deeper depth l) a → IsPart depth (l ∷ a)
 part_lead depth l a e p = record { closed = closed; nested = nested; inside = inside }
@@ -145,7 +126,7 @@ scans_comma l ls p (Some q) s more e h =
       joined = ap (λ x. x ∷ ls) e ∙ ap (λ r. mark 44 ∷ r) f.joined;
     })
 
-listed_led : (l : Lexeme) (x : List Lexeme) (xs : List (List Lexeme)) → listed ((l ∷ x) ∷ xs) ≡ l ∷ listed (x ∷ xs)
+pub listed_led : (l : Lexeme) (x : List Lexeme) (xs : List (List Lexeme)) → listed ((l ∷ x) ∷ xs) ≡ l ∷ listed (x ∷ xs)
 listed_led l x [] = refl
 listed_led l x (y ∷ ys) = refl
 
@@ -166,12 +147,7 @@ scans_lead depth l ls p (Some q) s more e h =
 
 -- the two ends of an angle
 end_parts : (depth : ℕ) (l : Lexeme) → ends_angle depth l ≡ true → (depth ≡ 0) × (is_mark 41 l || is_mark 44 l ≡ true)
-end_parts depth l e = by (nat_eq depth 0) refl (is_mark 41 l || is_mark 44 l) refl e
-  where
-    by : (x : Bool) → nat_eq depth 0 ≡ x → (y : Bool) → is_mark 41 l || is_mark 44 l ≡ y → x && y ≡ true → (depth ≡ 0) × (is_mark 41 l || is_mark 44 l ≡ true)
-    by true h true g k = (eqb-true depth 0 h, g)
-    by true h false g k = absurd cc
-    by false h y g k = absurd cc
+end_parts depth l e = let p = and_parts (nat_eq depth 0) (is_mark 41 l || is_mark 44 l) e in (eqb-true depth 0 p.0, p.1)
 
 pub scan_found : (depth : ℕ) (ls : List Lexeme) (p : List (List Lexeme) × List Lexeme) → scan depth ls ≡ Some p → Scans depth ls p
 scan_found depth [] p e = absurd cc
@@ -192,7 +168,7 @@ scan_found depth (l ∷ ls) p e = by (ends_angle depth l) refl (is_mark 41 l) re
 
 -- a part goes on after its first lexeme, which doesn't end it
 starts_inside : (depth : ℕ) (l : Lexeme) (a : List Lexeme) → IsPart depth (l ∷ a) → ends_angle depth l ≡ false
-starts_inside depth l a p = by (ends_angle depth l) refl
+starts_inside depth l a p = false_from_ne_true (ends_angle depth l) (λ h. let e = end_parts depth l h in which e.0 (is_mark 41 l) refl e.1)
   where
     close : depth ≡ 0 → l ≡ mark 41 → ⊥
     close d e = let q : closing (l ∷ []) ≤ depth + opening (l ∷ []) = p.nested (l ∷ []) a refl in let r : 1 ≤ depth + 0 = subst (λ l. closing (l ∷ []) ≤ depth + opening (l ∷ [])) e q in omega arith
@@ -203,10 +179,6 @@ starts_inside depth l a p = by (ends_angle depth l) refl
     which : depth ≡ 0 → (x : Bool) → is_mark 41 l ≡ x → x || is_mark 44 l ≡ true → ⊥
     which d true h e = close d (mark_is 41 l h)
     which d false h e = comma d (mark_is 44 l e)
-
-    by : (x : Bool) → ends_angle depth l ≡ x → x ≡ false
-    by false h = refl
-    by true h = let e = end_parts depth l h in absurd (which e.0 (is_mark 41 l) refl e.1)
 
 pub part_rest : (depth : ℕ) (l : Lexeme) (a : List Lexeme) → IsPart depth (l ∷ a) → (ends_angle depth l ≡ false) × IsPart (deeper depth l) a
 part_rest depth l a p = (

@@ -2,7 +2,7 @@
 use Rattle.std.proofs.Common.{◌≡◌, ◌∙◌, sym, ap, refl, ℕ, suc, ◌+◌, ◌-◌, Bool, true, false, ◌&&◌, ◌||◌, cond, nat_eq, nat_lt, List, [], ◌∷◌, length, take, drop, arith, Option, Some, None}
 use Rattle.qasm_lex.specs.declared.token.Token.{Token}
 use Rattle.qasm_lex.specs.declared.token.TokenKind.{TokenKind}
-use Rattle.qasm_lex.specs.declared.token.TokenKind.TheVariants.{Word, Whole, Real, Text, Arrow, Equal, Mark}
+use Rattle.qasm_lex.specs.declared.token.TokenKind.TheVariants.{Arrow, Mark}
 use Rattle.std.proofs.lemmas.Bool.Decides.{nat_tests}
 use Rattle.qasm_lex.specs.Lexemes.{Lexeme, lexeme_of, lexemes_of, of_kind}
 use Rattle.qasm_forms.specs.declared.lexemes.Stop.{Stop}
@@ -11,29 +11,16 @@ use Rattle.qasm_forms.specs.Statements.{is_mark}
 use Rattle.qasm_forms.specs.Private.Fronts.{ends_kind, stop_place, ends_angle, deeper, plus, angle_place, angle_at, led_by}
 use Rattle.qasm_forms.specs.Cutting.{is_stop, before_stop, has_stop, after_stop}
 
--- a separator is told by its kind
+-- marks and separators are told by their kinds
+mark_by_kind : (b : ℕ) (kind : TokenKind) (bytes : List ℕ) → is_mark b (of_kind kind []) ≡ is_mark b (of_kind kind bytes)
+mark_by_kind b (Mark m) bytes = refl
+mark_by_kind b _ bytes = refl
+
 stop_by_kind : (stop : Stop) (kind : TokenKind) (bytes : List ℕ) → ends_kind stop kind ≡ is_stop stop (of_kind kind bytes)
-stop_by_kind Semicolon Word bytes = refl
-stop_by_kind Semicolon Whole bytes = refl
-stop_by_kind Semicolon Real bytes = refl
-stop_by_kind Semicolon Text bytes = refl
-stop_by_kind Semicolon Arrow bytes = refl
-stop_by_kind Semicolon Equal bytes = refl
-stop_by_kind Semicolon (Mark b) bytes = refl
-stop_by_kind Comma Word bytes = refl
-stop_by_kind Comma Whole bytes = refl
-stop_by_kind Comma Real bytes = refl
-stop_by_kind Comma Text bytes = refl
-stop_by_kind Comma Arrow bytes = refl
-stop_by_kind Comma Equal bytes = refl
-stop_by_kind Comma (Mark b) bytes = refl
-stop_by_kind To Word bytes = refl
-stop_by_kind To Whole bytes = refl
-stop_by_kind To Real bytes = refl
-stop_by_kind To Text bytes = refl
+stop_by_kind Semicolon kind bytes = mark_by_kind 59 kind bytes
+stop_by_kind Comma kind bytes = mark_by_kind 44 kind bytes
 stop_by_kind To Arrow bytes = refl
-stop_by_kind To Equal bytes = refl
-stop_by_kind To (Mark b) bytes = refl
+stop_by_kind To _ bytes = refl
 
 less_zero : (n : ℕ) → nat_lt 0 (suc n) ≡ true
 less_zero n = grind (arith, nat_tests)
@@ -66,16 +53,6 @@ cut_step stop text t tokens c false e f =
 pub cut_at : (stop : Stop) (text : List ℕ) (tokens : List Token) → CutAt stop text tokens
 cut_at stop text [] = record { front = refl; found = refl; rest = refl }
 cut_at stop text (t ∷ tokens) = cut_step stop text t tokens (cut_at stop text tokens) (ends_kind stop t.kind) refl (sym (stop_by_kind stop t.kind _))
-
--- marks are told by their kinds
-mark_by_kind : (b : ℕ) (kind : TokenKind) (bytes : List ℕ) → is_mark b (of_kind kind []) ≡ is_mark b (of_kind kind bytes)
-mark_by_kind b Word bytes = refl
-mark_by_kind b Whole bytes = refl
-mark_by_kind b Real bytes = refl
-mark_by_kind b Text bytes = refl
-mark_by_kind b Arrow bytes = refl
-mark_by_kind b Equal bytes = refl
-mark_by_kind b (Mark m) bytes = refl
 
 deeper_by_kind : (depth : ℕ) (kind : TokenKind) (bytes : List ℕ) → deeper depth (of_kind kind []) ≡ deeper depth (of_kind kind bytes)
 deeper_by_kind depth kind bytes =

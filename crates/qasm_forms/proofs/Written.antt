@@ -1,16 +1,17 @@
 -- What is written as a formed statement is read as it.
-use Rattle.std.proofs.Common.{◌≡◌, ◌∙◌, sym, ap, refl, ◌<◌, ℕ, Bool, true, false, cond, ◌||◌, List, [], ◌∷◌, ◌++◌, length, arith, Option, Some, None, append_assoc, codes}
+use Rattle.std.proofs.Common.{◌≡◌, ◌∙◌, sym, ap, refl, ◌<◌, ℕ, true, false, cond, ◌||◌, List, [], ◌∷◌, ◌++◌, length, arith, Option, Some, None, append_assoc, codes}
 use Rattle.std.specs.List.{AllByRecursion, list_any}
 use Rattle.std.specs.Str.{bytes_eq}
 use Rattle.std.proofs.lemmas.Slice.Eq.{bytes_eq-Decides}
 use Rattle.qasm_forms.specs.declared.lexemes.Stop.TheVariants.{To}
-use Rattle.qasm_lex.specs.Lexemes.{Lexeme, word, whole, real, quoted, arrow, equal, mark}
+use Rattle.qasm_lex.specs.Lexemes.{Lexeme, word, whole, arrow, mark}
 use Rattle.qasm_forms.specs.Statements.{is_mark}
 use Rattle.qasm_forms.specs.Statements.{Argument, Statement, version, include, qubits, bits, barrier, measure, call, left_out, IsArgument, AreArguments, AreAngles, IsAngle, Formed, first_word, written_rest, written_argument, written_index, written_angles, written_each, listed, is_name, is_left_out}
 use Rattle.qasm_forms.specs.Private.Fronts.{and_then, mark_at, index_at, deeper}
 use Rattle.qasm_forms.specs.Cutting.{is_nothing, before_stop, has_stop, after_stop}
-use Rattle.qasm_forms.specs.Private.Parsing.{split, gather, argument_at, indexed, arguments_at, scan, lead_angle, next_angle, filled, angles_from, angles_at, declaration_at, is_version, included_at, measure_at, call_from, call_at, after_word, statement_at}
+use Rattle.qasm_forms.specs.Private.Parsing.{split, gather, argument_at, indexed, arguments_at, scan, lead_angle, next_angle, filled, angles_from, angles_at, declaration_at, measure_at, call_from, call_at, after_word, statement_at}
 use Rattle.qasm_forms.proofs.Nesting.{IsPart, part_rest}
+use Rattle.std.proofs.lemmas.Bool.{or_parts, cond-false, false_from_ne_true}
 
 argument_by : (name : List ℕ) (index : Option (List ℕ)) → is_name name ≡ true → argument_at (word name ∷ written_index index) ≡ Some (record { name = name; index = index })
 argument_by name None e = ap (λ x. and_then {A = List ℕ × List Lexeme} (cond x (Some (name, [])) None) (λ n. indexed n.0 n.1)) e
@@ -83,22 +84,13 @@ all_some [] h = refl
 all_some (a ∷ all) h = ap (λ b. b || list_any is_nothing all) (some_angle a h.0.some) ∙ all_some all h.1
 
 no_mark : (b : ℕ) (l : Lexeme) (ls : List Lexeme) → is_mark b l ≡ false → mark_at b (l ∷ ls) ≡ None
-no_mark b (word m) ls e = refl
-no_mark b (whole m) ls e = refl
-no_mark b (real m) ls e = refl
-no_mark b (quoted m) ls e = refl
-no_mark b arrow ls e = refl
-no_mark b equal ls e = refl
 no_mark b (mark c) ls e = ap (λ x. cond x (Some ls) None) e
-
-or_left : (x y : Bool) → x || y ≡ false → x ≡ false
-or_left true y e = absurd cc
-or_left false y e = refl
+no_mark b _ ls e = refl
 
 -- an angle doesn't begin with a closing parenthesis
 begins : (a : List Lexeme) (ls : List Lexeme) → IsAngle a → mark_at 41 (a ++ ls) ≡ None
 begins [] ls h = absurd (let q = h.some in omega arith)
-begins (l ∷ a) ls h = no_mark 41 l (a ++ ls) (or_left (is_mark 41 l) (is_mark 44 l) (part_rest 0 l a (part_of (l ∷ a) h)).0)
+begins (l ∷ a) ls h = no_mark 41 l (a ++ ls) (or_parts (is_mark 41 l) (is_mark 44 l) (part_rest 0 l a (part_of (l ∷ a) h)).0).0
 
 begins_listed : (a : List Lexeme) (all : List (List Lexeme)) (ls : List Lexeme) → IsAngle a → mark_at 41 (listed (a ∷ all) ++ ls) ≡ None
 begins_listed a [] ls h = begins a ls h
@@ -111,9 +103,8 @@ angles_written (a ∷ all) r h =
     ∙ ap (λ b. cond b None (Some (a ∷ all, r))) (all_some (a ∷ all) h)
 
 no_angles : (all : List Argument) → AreArguments all → mark_at 40 (listed (written_each all)) ≡ None
-no_angles [] h = refl
-no_angles (a ∷ []) h = refl
 no_angles (a ∷ b ∷ all) h = refl
+no_angles _ h = refl
 
 call_written : (name : List ℕ) (angles : Option (List (List Lexeme))) (all : List Argument) → AreAngles angles → AreArguments all
     → call_at name (written_angles angles ++ listed (written_each all)) ≡ Some (call name angles all)
@@ -124,98 +115,34 @@ call_written name (Some angles) all g h =
     (ap angles_at (append_assoc (listed angles) (mark 41 ∷ []) (listed (written_each all))) ∙ angles_written angles (listed (written_each all)) g)
     ∙ ap (λ x. and_then x (λ all. Some (call name (Some angles) all))) (arguments_written all h)
 
-before_to : (name : List ℕ) (index : Option (List ℕ)) (r : List Lexeme) → before_stop To ((word name ∷ written_index index) ++ (arrow ∷ r)) ≡ word name ∷ written_index index
-before_to name None r = refl
-before_to name (Some d) r = refl
+-- an argument before `->`
+record CutTo (a : List Lexeme) (r : List Lexeme) : Type 0 where
+  before : before_stop To (a ++ (arrow ∷ r)) ≡ a
+  has : has_stop To (a ++ (arrow ∷ r)) ≡ true
+  after : after_stop To (a ++ (arrow ∷ r)) ≡ r
 
-has_to : (name : List ℕ) (index : Option (List ℕ)) (r : List Lexeme) → has_stop To ((word name ∷ written_index index) ++ (arrow ∷ r)) ≡ true
-has_to name None r = refl
-has_to name (Some d) r = refl
-
-after_to : (name : List ℕ) (index : Option (List ℕ)) (r : List Lexeme) → after_stop To ((word name ∷ written_index index) ++ (arrow ∷ r)) ≡ r
-after_to name None r = refl
-after_to name (Some d) r = refl
+cut_to : (name : List ℕ) (index : Option (List ℕ)) (r : List Lexeme) → CutTo (word name ∷ written_index index) r
+cut_to name None r = record { before = refl; has = refl; after = refl }
+cut_to name (Some d) r = record { before = refl; has = refl; after = refl }
 
 measure_written : (a b : Argument) → IsArgument a → IsArgument b → measure_at (written_argument a ++ (arrow ∷ written_argument b)) ≡ Some (measure a b)
 measure_written a b g h =
     let ls = written_argument a ++ (arrow ∷ written_argument b) in
-    ap (λ x. cond x (and_then (argument_at (before_stop To ls)) (λ a. and_then (argument_at (after_stop To ls)) (λ b. Some (measure a b)))) None) (has_to a.name a.index (written_argument b))
-    ∙ ap (λ x. and_then x (λ a. and_then (argument_at (after_stop To ls)) (λ b. Some (measure a b)))) (ap argument_at (before_to a.name a.index (written_argument b)) ∙ argument_written a g)
-    ∙ ap (λ x. and_then x (λ b. Some (measure a b))) (ap argument_at (after_to a.name a.index (written_argument b)) ∙ argument_written b h)
+    let t = cut_to a.name a.index (written_argument b) in
+    ap (λ x. cond x (and_then (argument_at (before_stop To ls)) (λ a. and_then (argument_at (after_stop To ls)) (λ b. Some (measure a b)))) None) t.has
+    ∙ ap (λ x. and_then x (λ a. and_then (argument_at (after_stop To ls)) (λ b. Some (measure a b)))) (ap argument_at t.before ∙ argument_written a g)
+    ∙ ap (λ x. and_then x (λ b. Some (measure a b))) (ap argument_at t.after ∙ argument_written b h)
 
--- another word
-other_word : (name w : List ℕ) → is_name name ≡ true → is_name w ≡ false → bytes_eq name w ≡ false
-other_word name w e f = by (bytes_eq name w) refl
-  where
-    by : (x : Bool) → bytes_eq name w ≡ x → x ≡ false
-    by false h = refl
-    by true h = absurd (let q : name ≡ w = (bytes_eq-Decides name w).0 h in let r : true ≡ false = sym e ∙ ap is_name q ∙ f in cc)
-
-skip : {A : Type 0} (t : Bool) (x y : A) → t ≡ false → cond t x y ≡ y
-skip t x y e = ap (λ b. cond b x y) e
-
-no_name_openqasm : is_name (codes "OPENQASM") ≡ false
-unfolding is_name
-no_name_openqasm = refl
-
-no_name_include : is_name (codes "include") ≡ false
-unfolding is_name
-no_name_include = refl
-
-no_name_qreg : is_name (codes "qreg") ≡ false
-unfolding is_name
-no_name_qreg = refl
-
-no_name_creg : is_name (codes "creg") ≡ false
-unfolding is_name
-no_name_creg = refl
-
-no_name_barrier : is_name (codes "barrier") ≡ false
-unfolding is_name
-no_name_barrier = refl
-
-no_name_measure : is_name (codes "measure") ≡ false
-unfolding is_name
-no_name_measure = refl
+-- a test on a word that is no name
+past : {A : Type 0} (name w : List ℕ) (x y : A) → is_name name ≡ true → is_name w ≡ false → cond (bytes_eq name w) x y ≡ y
+past name w x y e f =
+    cond-false (bytes_eq name w) x y (false_from_ne_true _ (λ h. let q : name ≡ w = (bytes_eq-Decides name w).0 h in let r : true ≡ false = sym e ∙ ap is_name q ∙ f in cc))
 
 after_call : (name : List ℕ) (ls : List Lexeme) → is_name name ≡ true → after_word false name ls ≡ call_at name ls
-unfolding after_word
+unfolding after_word is_name
 after_call name ls n =
-    skip (bytes_eq name (codes "OPENQASM")) _ _ (other_word name (codes "OPENQASM") n no_name_openqasm)
-    ∙ skip (bytes_eq name (codes "include")) _ _ (other_word name (codes "include") n no_name_include)
-    ∙ skip (bytes_eq name (codes "qreg")) _ _ (other_word name (codes "qreg") n no_name_qreg)
-    ∙ skip (bytes_eq name (codes "creg")) _ _ (other_word name (codes "creg") n no_name_creg)
-    ∙ skip (bytes_eq name (codes "barrier")) _ _ (other_word name (codes "barrier") n no_name_barrier)
-    ∙ skip (bytes_eq name (codes "measure")) _ _ (other_word name (codes "measure") n no_name_measure)
-    ∙ ap (λ x. cond x (call_at name ls) None) n
-
-after_version : (ls : List Lexeme) → after_word false (codes "OPENQASM") ls ≡ cond (is_version ls) (Some version) None
-unfolding after_word
-after_version ls = refl
-
-after_include : (ls : List Lexeme) → after_word false (codes "include") ls ≡ and_then (included_at ls) (λ t. Some (include t))
-unfolding after_word
-after_include ls = refl
-
-after_qreg : (ls : List Lexeme) → after_word false (codes "qreg") ls ≡ and_then (declaration_at ls) (λ p. Some (qubits p.0 p.1))
-unfolding after_word
-after_qreg ls = refl
-
-after_creg : (ls : List Lexeme) → after_word false (codes "creg") ls ≡ and_then (declaration_at ls) (λ p. Some (bits p.0 p.1))
-unfolding after_word
-after_creg ls = refl
-
-after_barrier : (ls : List Lexeme) → after_word false (codes "barrier") ls ≡ and_then (arguments_at ls) (λ all. Some (barrier all))
-unfolding after_word
-after_barrier ls = refl
-
-after_measure : (ls : List Lexeme) → after_word false (codes "measure") ls ≡ measure_at ls
-unfolding after_word
-after_measure ls = refl
-
-after_left_out : (name : List ℕ) (ls : List Lexeme) → after_word true name ls ≡ Some (left_out name ls)
-unfolding after_word
-after_left_out name ls = refl
+    past name (codes "OPENQASM") _ _ n refl ∙ past name (codes "include") _ _ n refl ∙ past name (codes "qreg") _ _ n refl ∙ past name (codes "creg") _ _ n refl
+    ∙ past name (codes "barrier") _ _ n refl ∙ past name (codes "measure") _ _ n refl ∙ ap (λ x. cond x (call_at name ls) None) n
 
 declaration_written : (name size : List ℕ) → is_name name ≡ true → declaration_at (word name ∷ mark 91 ∷ whole size ∷ mark 93 ∷ []) ≡ Some (name, size)
 declaration_written name size e =
@@ -223,11 +150,12 @@ declaration_written name size e =
 
 -- a formed statement is read as it is written
 pub statement_written : (s : Statement) → Formed s → statement_at (is_left_out s) (word (first_word s) ∷ written_rest s) ≡ Some s
-statement_written version f = after_version (real (codes "2.0") ∷ [])
-statement_written (include text) f = after_include (quoted text ∷ [])
-statement_written (qubits name size) f = after_qreg _ ∙ ap (λ x. and_then x (λ p. Some (qubits p.0 p.1))) (declaration_written name size f)
-statement_written (bits name size) f = after_creg _ ∙ ap (λ x. and_then x (λ p. Some (bits p.0 p.1))) (declaration_written name size f)
-statement_written (barrier all) f = after_barrier _ ∙ ap (λ x. and_then x (λ all. Some (barrier all))) (arguments_written all f)
-statement_written (measure a b) f = after_measure _ ∙ measure_written a b f.0 f.1
-statement_written (call name angles all) f = after_call name _ f.0 ∙ call_written name angles all f.1 f.2
-statement_written (left_out name more) f = after_left_out name more
+unfolding after_word
+statement_written version f = refl
+statement_written (include text) f = refl
+statement_written (qubits name size) f = ap (λ x. and_then x (λ p. Some (qubits p.0 p.1))) (declaration_written name size f)
+statement_written (bits name size) f = ap (λ x. and_then x (λ p. Some (bits p.0 p.1))) (declaration_written name size f)
+statement_written (barrier all) f = ap (λ x. and_then x (λ all. Some (barrier all))) (arguments_written all f)
+statement_written (measure a b) f = measure_written a b f.0 f.1
+statement_written (call name angles all) f = after_call name (written_angles angles ++ listed (written_each all)) f.0 ∙ call_written name angles all f.1 f.2
+statement_written (left_out name more) f = refl

@@ -1,6 +1,7 @@
 -- Statements carried out, by what the code has found.
 use Rattle.std.proofs.Common.{◌≡◌, ◌∙◌, sym, ap, refl, subst, ◌≤◌, ◌<◌, ℕ, ◌+◌, ◌*◌, Bool, true, false, ◌&&◌, ◌||◌, not, cond, nat_eq, nat_lt, List, [], ◌∷◌, length, Option, Some, Result, Ok, Err, IfOk, arith}
 use Rattle.std.specs.List.{list_any}
+use Rattle.std.proofs.lemmas.Bool.{and_parts, eqb-true, ltb-false}
 use Rattle.std.proofs.lemmas.Bool.Decides.{nat_tests}
 use Rattle.std.proofs.lemmas.List.{length-replicate}
 use Rattle.gate_set.specs.declared.kind.Kind.{Kind}
@@ -19,7 +20,7 @@ use Rattle.qasm_reader.specs.Private.Scope.{find, both_found, capped, differ, re
 use Rattle.qasm_lex.specs.Lexemes.{Lexeme}
 use Rattle.qasm_reader.specs.Private.Tests.{Taken, angle_list, first_listed}
 use Rattle.qasm_reader.specs.Private.Drafts.{Draft, IsDraft, with_gates, bodied, counted_on, applied, applied_to, gate_on}
-use Rattle.qasm_reader.proofs.Facts.{same_numbers}
+use Rattle.qasm_reader.proofs.Facts.{passes}
 use Rattle.qasm_reader.proofs.Looking.{Finding, unknown, beyond, found, finding}
 use Rattle.qasm_reader.proofs.Placing.{qubit_below, placed_on}
 
@@ -30,12 +31,9 @@ same_count most n a h = by (nat_lt n most) refl
     differ_both : most ≤ n → nat_eq most a ≡ nat_eq n a
     differ_both l = grind (arith, nat_tests)
 
-    at_least : (m n : ℕ) → nat_lt n m ≡ false → m ≤ n
-    at_least m n e = grind (arith, nat_tests)
-
     by : (b : Bool) → nat_lt n most ≡ b → nat_eq (capped most n) a ≡ nat_eq n a
     by true e = ap (λ b. nat_eq (cond b n most) a) e
-    by false e = ap (λ b. nat_eq (cond b n most) a) e ∙ differ_both (at_least most n e)
+    by false e = ap (λ b. nat_eq (cond b n most) a) e ∙ differ_both (ltb-false n most e)
 
 arity_few : (called : Named) → arity called < 4
 arity_few (gate kind) = let f = arity_of-few kind in omega arith
@@ -51,16 +49,6 @@ pub record CountsRight (called : Named) (n k : ℕ) : Type 0 where
   pub arguments : n ≡ arity called
   pub angles : k ≡ angle_count called
 
-both_true : (a b : Bool) → a && b ≡ true → (a ≡ true) × (b ≡ true)
-both_true true true e = (refl, refl)
-both_true true false e = absurd cc
-both_true false b e = absurd cc
-
-nots : (a b : Bool) → a && b ≡ false → not a || not b ≡ true
-nots true true e = absurd cc
-nots true false e = refl
-nots false b e = refl
-
 module _ (called : Named) (n k : ℕ) where
   counts_same : nat_eq (capped 4 n) (arity called) && nat_eq (capped 2 k) (angle_count called) ≡ nat_eq n (arity called) && nat_eq k (angle_count called)
   counts_same =
@@ -69,15 +57,12 @@ module _ (called : Named) (n k : ℕ) where
 
   pub counts_right : nat_eq (capped 4 n) (arity called) && nat_eq (capped 2 k) (angle_count called) ≡ true → CountsRight called n k
   counts_right e =
-      let p = both_true _ _ (sym counts_same ∙ e) in
+      let p = and_parts _ _ (sym counts_same ∙ e) in
       record {
         test = ap (λ b. not b || not (nat_eq k (angle_count called))) p.0 ∙ ap not p.1;
-        arguments = same_numbers n (arity called) p.0;
-        angles = same_numbers k (angle_count called) p.1;
+        arguments = eqb-true n (arity called) p.0;
+        angles = eqb-true k (angle_count called) p.1;
       }
-
-  pub counts_wrong : nat_eq (capped 4 n) (arity called) && nat_eq (capped 2 k) (angle_count called) ≡ false → miscounts (Some called) n k ≡ true
-  counts_wrong e = nots _ _ (sym counts_same ∙ e)
 
 module _ (d : Draft) (called : Named) (n : ℕ) (t : Taken) (all : List Argument) where
   abbrev after_within : Result Draft Why
@@ -86,20 +71,11 @@ module _ (d : Draft) (called : Named) (n : ℕ) (t : Taken) (all : List Argument
   abbrev after_known : Result Draft Why
   after_known = cond (list_any (is_beyond d.registers) all) (Err IndexOutOfRange) after_within
 
-  pub gate_unknown : list_any (is_unknown d.registers true) all ≡ true → Err UnknownRegister ≡ gate_on d called n t all
-  gate_unknown e = sym (ap (λ b. cond b (Err UnknownRegister) after_known) e)
-
   module _ (known : list_any (is_unknown d.registers true) all ≡ false) where
     past_known : gate_on d called n t all ≡ cond (list_any (is_beyond d.registers) all) (Err IndexOutOfRange) (cond (miscounts (Some called) (length all) n) (Err WrongCount) (applied_to d t (targets d.registers all)))
     past_known = ap (λ b. cond b (Err UnknownRegister) after_known) known
 
-    pub gate_beyond : list_any (is_beyond d.registers) all ≡ true → Err IndexOutOfRange ≡ gate_on d called n t all
-    gate_beyond e = sym (past_known ∙ ap (λ b. cond b (Err IndexOutOfRange) after_within) e)
-
     module _ (within : list_any (is_beyond d.registers) all ≡ false) where
-      pub gate_miscounted : miscounts (Some called) (length all) n ≡ true → Err WrongCount ≡ gate_on d called n t all
-      gate_miscounted e = sym (past_known ∙ ap (λ b. cond b (Err IndexOutOfRange) after_within) within ∙ ap (λ b. cond b (Err WrongCount) (applied_to d t (targets d.registers all))) e)
-
       pub gate_goes : miscounts (Some called) (length all) n ≡ false → (ts : List Target) → targets d.registers all ≡ Some ts → gate_on d called n t all ≡ applied d t ts
       gate_goes e ts m = past_known ∙ ap (λ b. cond b (Err IndexOutOfRange) after_within) within ∙ ap (λ b. cond b (Err WrongCount) (applied_to d t (targets d.registers all))) e ∙ ap (applied_to d t) m
 
@@ -132,18 +108,14 @@ pub record Passes (body : Result (Kind × ℕ) Why) (ts : List Target) (p : Kind
   pub once : repeats ts ≡ false
   pub does : body ≡ Ok p
 
-cond_ok : (b : Bool) (why : Why) (r : Result (Kind × ℕ) Why) (p : Kind × ℕ) → cond b (Err why) r ≡ Ok p → (b ≡ false) × (r ≡ Ok p)
-cond_ok true why r p e = absurd cc
-cond_ok false why r p e = (refl, e)
-
 counted_ok : (flags : List Bool) (ts : List Target) (gates : ℕ) (r : Result (Kind × ℕ) Why) (p : Kind × ℕ) → counted flags ts gates r ≡ Ok p → r ≡ Ok p
 counted_ok flags ts gates (Err why) p e = absurd cc
-counted_ok flags ts gates (Ok x) p e = (cond_ok (nat_lt 1000000 (gates + x.1 * place_count ts)) TooManyGates (Ok x) p (cond_ok (touches flags ts) Measured _ p e).1).1
+counted_ok flags ts gates (Ok x) p e = (passes (nat_lt 1000000 (gates + x.1 * place_count ts)) TooManyGates (Ok x) p (passes (touches flags ts) Measured _ p e).1).1
 
-pub passes : (body : Result (Kind × ℕ) Why) (ts : List Target) (flags : List Bool) (gates : ℕ) (p : Kind × ℕ) → outcome_on body ts flags gates ≡ Ok p → Passes body ts p
-passes body ts flags gates p e =
-    let q = cond_ok (differ (wholes ts)) SizesDiffer _ p e in
-    let r = cond_ok (repeats ts) RepeatedQubit _ p q.1 in
+pub body_passes : (body : Result (Kind × ℕ) Why) (ts : List Target) (flags : List Bool) (gates : ℕ) (p : Kind × ℕ) → outcome_on body ts flags gates ≡ Ok p → Passes body ts p
+body_passes body ts flags gates p e =
+    let q = passes (differ (wholes ts)) SizesDiffer _ p e in
+    let r = passes (repeats ts) RepeatedQubit _ p q.1 in
     record { alike = q.0; once = r.0; does = counted_ok flags ts gates body p r.1 }
 
 arity_is : (body : Result (Kind × ℕ) Why) (p : Kind × ℕ) (n : ℕ) → body ≡ Ok p → IfOk body (λ q. arity_of q.0 ≡ n) → arity_of p.0 ≡ n
@@ -155,7 +127,7 @@ pub placed_call : (d : Draft) → IsDraft d → (called : Named) (all : List Arg
     → list_any (is_unknown d.registers true) all ≡ false → list_any (is_beyond d.registers) all ≡ false → targets d.registers all ≡ Some ts → length all ≡ arity called
     → IfOk body (λ q. arity_of q.0 ≡ arity called) → outcome_on body ts flags gates ≡ Ok p → (place : ℕ) → place < place_count ts → IsPlaced p.0 (qubits_at ts place)
 placed_call d i called all ts body flags gates p u b m c a e place h =
-    let s = passes body ts flags gates p e in
+    let s = body_passes body ts flags gates p e in
     (placed_on d.qubits d.registers i.few_qubits i.registers_end all ts p.0 place u b m (c ∙ sym (arity_is body p (arity called) s.does a)) s.alike s.once h).placed
 
 -- two that are found
@@ -166,9 +138,6 @@ both_ok (Err Unknown) g p e = absurd cc
 both_ok (Err Beyond) (Ok g) p e = absurd cc
 both_ok (Err Beyond) (Err m) p e = absurd cc
 
-ok_same : (x y : Target) → ◌≡◌ {A = Result Target Miss} (Ok x) (Ok y) → x ≡ y
-ok_same x y e = cc
-
 -- a qubit of the first of them is one of the draft's
 pub found_below : (d : Draft) → IsDraft d → (from : Argument) (other : Result Target Miss) (p : Target × Target) → both_found (find d.registers true from) other ≡ Ok p
     → (place : ℕ) → place < place_count (p.0 ∷ []) → qubit_at place p.0 < d.qubits
@@ -178,7 +147,7 @@ found_below d i from other p e place h = by (finding (register d.registers from.
     by (unknown u f) q = absurd (let z : ◌≡◌ {A = Result Target Miss} (Err Unknown) (Ok p.0) = sym f ∙ q in cc)
     by (beyond u b f) q = absurd (let z : ◌≡◌ {A = Result Target Miss} (Err Beyond) (Ok p.0) = sym f ∙ q in cc)
     by (found x u b w f) q =
-        qubit_below d.qubits d.registers i.registers_end from p.0 u b (w ∙ ap Some (ok_same x p.0 (sym f ∙ q))) place h
+        let same : ◌≡◌ {A = Result Target Miss} (Ok x) (Ok p.0) = sym f ∙ q in let is : x ≡ p.0 = cc in qubit_below d.qubits d.registers i.registers_end from p.0 u b (w ∙ ap Some is) place h
 
 -- at most one angle is the first of them
 pub one_listed : (called : Named) (angles : List (List Lexeme)) (first : Option (List Lexeme)) → first ≡ first_listed angles → length angles ≡ angle_count called → angle_list first ≡ angles

@@ -1,12 +1,13 @@
 -- The first test that holds tells the refusal of a statement.
 use Rattle.std.proofs.Common.{◌≡◌, ◌≢◌, ◌∙◌, sym, ap, refl, subst, ◌≤◌, ◌<◌, ◌⊎◌, inl, inr, ℕ, zero, suc, Bool, true, false, ◌||◌, not, nat_eq, List, [], ◌∷◌, ◌++◌, length, All, AllPairs, arith, Option, Some, None, Ok, Err}
 use Rattle.std.specs.List.{list_any, AllByRecursion}
-use Rattle.std.proofs.lemmas.Bool.{eqb-true, eqb-false, eq-eqb}
-use Rattle.std.proofs.lemmas.Bool.Decides.{Decides-ltb, eqb_tells}
+use Rattle.std.proofs.lemmas.Bool.{eqb-true, eqb-false, eq-eqb, ne_eqb, not-false, or_parts}
+use Rattle.std.proofs.lemmas.Option.{none-some, same_Some}
+use Rattle.std.proofs.lemmas.Bool.Decides.{Decides-ltb}
 use Rattle.std.proofs.lemmas.List.Elements.{All-nil, All-cons, All-weaker}
 use Rattle.std.proofs.lemmas.List.Folds.{list_any_none}
 use Rattle.std.proofs.lemmas.List.Kept.{AllPairs-cons}
-use Rattle.qasm_forms.specs.Statements.{Statement, version, include, qubits, bits, barrier, measure, call, left_out, Argument}
+use Rattle.qasm_forms.specs.Statements.{Statement, version, measure, call, Argument}
 use Rattle.qasm_reader.specs.declared.reason.Why.{Why}
 use Rattle.qasm_reader.specs.declared.reason.Why.TheVariants.{BadByte, NoVersion, NotAStatement, OutOfProfile, UnknownName, Redeclared, UnknownRegister, IndexOutOfRange, WrongCount, SizesDiffer, RepeatedQubit, AngleRefused, OffGrid, Measured, TooManyQubits, TooManyGates}
 use Rattle.qasm_reader.specs.Acts.{Act, Register, Target, registers, target, targets, wholes, first_or_one, place_count, qubits_at, up_to, is_among, measured, qubit_count, gates, measures}
@@ -16,7 +17,7 @@ use Rattle.qasm_reader.specs.Parts.{Part, Has}
 use Rattle.qasm_reader.specs.Reasons.{Breaks, Holds, Refuses, IsFree, AreUnequal, DifferInSize, AtSomePlace, Repeats, Meets, IsOffGrid, angles_of, called_in, order}
 use Rattle.qasm_reader.specs.Private.Scope.{other_than, differ, has_twice}
 use Rattle.qasm_reader.specs.Private.Tests.{Taken, Yields, is_refused, is_off, refusal_of, if_all, if_two, other_count, sizes_differ, some_place, act_on, measure_act, act_of, exceeds, tests, reasons, first_of}
-use Rattle.qasm_reader.proofs.Facts.{neither}
+use Rattle.qasm_reader.proofs.Good.{has_one}
 use Rattle.qasm_reader.proofs.Places.{any_there, any_found}
 use Rattle.qasm_reader.proofs.Yielding.{yields_one}
 
@@ -30,23 +31,12 @@ pairs_head R x xs h k d l = h zero (suc k) d (omega arith) (omega arith)
 pairs_tail : {X : Type 0} (R : X → X → Type 0) (x : X) (xs : List X) → AllPairs R (x ∷ xs) → AllPairs R xs
 pairs_tail R x xs h i j d l k = h (suc i) (suc j) d (omega arith) (omega arith)
 
-other_number : (p q : ℕ) → q ≢ p → nat_eq q p ≡ false
-other_number p q h = by (eqb_tells q p)
-  where
-    by : ((nat_eq q p ≡ true) × (q ≡ p)) ⊎ ((nat_eq q p ≡ false) × (q ≢ p)) → nat_eq q p ≡ false
-    by (inl r) = absurd (h r.1)
-    by (inr r) = r.0
-
-not_false : (b : Bool) → not b ≡ false → b ≡ true
-not_false true e = refl
-not_false false e = absurd cc
-
 -- sizes that are all equal
 each_same : (n : ℕ) (sizes : List ℕ) → list_any (other_than n) sizes ≡ false → AllByRecursion (λ m. m ≡ n) sizes
 each_same n [] e = tt
 each_same n (m ∷ sizes) e =
-    let q = neither (not (nat_eq m n)) (list_any (other_than n) sizes) e in
-    (eqb-true m n (not_false (nat_eq m n) q.0), each_same n sizes q.1)
+    let q = or_parts (not (nat_eq m n)) (list_any (other_than n) sizes) e in
+    (eqb-true m n (not-false (nat_eq m n) q.0), each_same n sizes q.1)
 
 pub same_places : (sizes : List ℕ) → differ sizes ≡ false → AllByRecursion (λ m. m ≡ first_or_one sizes) sizes
 same_places [] e = tt
@@ -91,15 +81,15 @@ unequal_decides sizes = record {
 pub not_among : (q : ℕ) (qs : List ℕ) → is_among qs q ≡ false → All (λ p. q ≢ p) qs
 not_among q [] e = All-nil (λ p. q ≢ p)
 not_among q (p ∷ qs) e =
-    let s = neither (nat_eq q p) (is_among qs q) e in All-cons (λ p. q ≢ p) p qs (eqb-false q p s.0) (not_among q qs s.1)
+    let s = or_parts (nat_eq q p) (is_among qs q) e in All-cons (λ p. q ≢ p) p qs (eqb-false q p s.0) (not_among q qs s.1)
 
 among_none : (q : ℕ) (qs : List ℕ) → All (λ p. q ≢ p) qs → is_among qs q ≡ false
-among_none q qs h = list_any_none (nat_eq q) qs (All-weaker (λ p. q ≢ p) (λ p. nat_eq q p ≡ false) (λ p n. other_number p q n) qs h)
+among_none q qs h = list_any_none (nat_eq q) qs (All-weaker (λ p. q ≢ p) (λ p. nat_eq q p ≡ false) (λ p n. ne_eqb q p n) qs h)
 
 -- where none is there twice all are different
 pub different : (qs : List ℕ) → has_twice qs ≡ false → AllPairs (λ p q. p ≢ q) qs
 different [] e = pairs_none (λ p q. p ≢ q)
-different (q ∷ qs) e = let s = neither (is_among qs q) (has_twice qs) e in AllPairs-cons (λ p q. p ≢ q) q qs (not_among q qs s.0) (different qs s.1)
+different (q ∷ qs) e = let s = or_parts (is_among qs q) (has_twice qs) e in AllPairs-cons (λ p q. p ≢ q) q qs (not_among q qs s.0) (different qs s.1)
 
 none_twice : (qs : List ℕ) → AllPairs (λ p q. p ≢ q) qs → has_twice qs ≡ false
 none_twice [] h = refl
@@ -116,7 +106,7 @@ repeats_decides qs = record {
 none_gone : (gone qs : List ℕ) → list_any (is_among gone) qs ≡ false → All (λ q. All (λ p. q ≢ p) gone) qs
 none_gone gone [] e = All-nil _
 none_gone gone (q ∷ qs) e =
-    let s = neither (is_among gone q) (list_any (is_among gone) qs) e in All-cons (λ q. All (λ p. q ≢ p) gone) q qs (not_among q gone s.0) (none_gone gone qs s.1)
+    let s = or_parts (is_among gone q) (list_any (is_among gone) qs) e in All-cons (λ q. All (λ p. q ≢ p) gone) q qs (not_among q gone s.0) (none_gone gone qs s.1)
 
 no_test_gone : (gone qs : List ℕ) → All (λ q. All (λ p. q ≢ p) gone) qs → list_any (is_among gone) qs ≡ false
 no_test_gone gone qs h = list_any_none (is_among gone) qs (All-weaker (λ q. All (λ p. q ≢ p) gone) (λ q. is_among gone q ≡ false) (λ q a. among_none q gone a) qs h)
@@ -127,50 +117,29 @@ meets_decides gone qs = record {
   told = true_by (list_any (is_among gone) qs) (All (λ q. All (λ p. q ≢ p) gone) qs) (none_gone gone qs);
 }
 
-some_targets : (x y : List Target) → Some x ≡ Some y → x ≡ y
-some_targets x y e = cc
-
-some_target : (x y : Target) → Some x ≡ Some y → x ≡ y
-some_target x y e = cc
-
 module _ (all : List (List ℕ × Register)) where
   -- a fact on the places of a call
   place_decides : (P : List ℕ → Type 0) (test : List ℕ → Bool) → ((qs : List ℕ) → Decides (P qs) (test qs)) → (s : Statement) → Decides (AtSomePlace all P s) (some_place all test s)
-  place_decides P test d version = record { tells = λ e. absurd cc; told = λ p. absurd p }
-  place_decides P test d (include text) = record { tells = λ e. absurd cc; told = λ p. absurd p }
-  place_decides P test d (qubits name size) = record { tells = λ e. absurd cc; told = λ p. absurd p }
-  place_decides P test d (bits name size) = record { tells = λ e. absurd cc; told = λ p. absurd p }
-  place_decides P test d (barrier arguments) = record { tells = λ e. absurd cc; told = λ p. absurd p }
-  place_decides P test d (measure from to) = record { tells = λ e. absurd cc; told = λ p. absurd p }
-  place_decides P test d (left_out name more) = record { tells = λ e. absurd cc; told = λ p. absurd p }
   place_decides P test d (call name angles arguments) = by (targets all arguments) refl
     where
-      there : List Target → ℕ → Bool
-      there ts place = test (qubits_at ts place)
-
       by : (x : Option (List Target)) → targets all arguments ≡ x → Decides (AtSomePlace all P (call name angles arguments)) (if_all x (λ ts. list_any (λ place. test (qubits_at ts place)) (up_to (place_count ts))))
       by None e = record { tells = λ h. absurd cc; told = λ p. absurd (let q : None ≡ Some p.0 = sym e ∙ p.1 in cc) }
       by (Some ts) e = record {
         tells = λ h. (let f = any_found (λ place. test (qubits_at ts place)) (place_count ts) h in (ts, e, f.0, f.1, (d (qubits_at ts f.0)).tells f.2));
         told = λ p. (
-            let q : p.0 ≡ ts = some_targets p.0 ts (sym p.1 ∙ e) in
+            let q : p.0 ≡ ts = same_Some p.0 ts (sym p.1 ∙ e) in
             any_there (λ place. test (qubits_at ts place)) p.2 (place_count ts) (subst (λ x. p.2 < place_count x) q p.3) ((d (qubits_at ts p.2)).told (subst (λ x. P (qubits_at x p.2)) q p.4))
             );
       }
+  place_decides P test d _ = record { tells = λ e. absurd cc; told = λ p. absurd p }
 
   counts_decide : (f t : Target) → Decides (place_count (f ∷ []) ≢ place_count (t ∷ [])) (other_count f t)
   counts_decide f t = record {
     tells = told_by (other_count f t) (place_count (f ∷ []) ≡ place_count (t ∷ [])) (λ e. ap not (eq-eqb _ _ e));
-    told = true_by (other_count f t) (place_count (f ∷ []) ≡ place_count (t ∷ [])) (λ e. eqb-true _ _ (not_false _ e));
+    told = true_by (other_count f t) (place_count (f ∷ []) ≡ place_count (t ∷ [])) (λ e. eqb-true _ _ (not-false _ e));
   }
 
   sizes_decide : (s : Statement) → Decides (DifferInSize all s) (sizes_differ all s)
-  sizes_decide version = record { tells = λ e. absurd cc; told = λ p. absurd p }
-  sizes_decide (include text) = record { tells = λ e. absurd cc; told = λ p. absurd p }
-  sizes_decide (qubits name size) = record { tells = λ e. absurd cc; told = λ p. absurd p }
-  sizes_decide (bits name size) = record { tells = λ e. absurd cc; told = λ p. absurd p }
-  sizes_decide (barrier arguments) = record { tells = λ e. absurd cc; told = λ p. absurd p }
-  sizes_decide (left_out name more) = record { tells = λ e. absurd cc; told = λ p. absurd p }
   sizes_decide (measure from to) = by (target all from) refl (target all to) refl
     where
       by : (x : Option Target) → target all from ≡ x → (y : Option Target) → target all to ≡ y → Decides (DifferInSize all (measure from to)) (if_two x y other_count)
@@ -179,8 +148,8 @@ module _ (all : List (List ℕ × Register)) where
       by (Some f) e (Some t) g = record {
         tells = λ h. (f, t, e, g, (counts_decide f t).tells h);
         told = λ p. (
-            let q : p.0 ≡ f = some_target p.0 f (sym p.2 ∙ e) in
-            let r : p.1 ≡ t = some_target p.1 t (sym p.3 ∙ g) in
+            let q : p.0 ≡ f = same_Some p.0 f (sym p.2 ∙ e) in
+            let r : p.1 ≡ t = same_Some p.1 t (sym p.3 ∙ g) in
             (counts_decide f t).told (subst (λ x. place_count (f ∷ []) ≢ place_count (x ∷ [])) r (subst (λ x. place_count (x ∷ []) ≢ place_count (p.1 ∷ [])) q p.4))
             );
       }
@@ -190,8 +159,9 @@ module _ (all : List (List ℕ × Register)) where
       by None e = record { tells = λ h. absurd cc; told = λ p. absurd (let q : None ≡ Some p.0 = sym e ∙ p.1 in cc) }
       by (Some ts) e = record {
         tells = λ h. (ts, e, (unequal_decides (wholes ts)).tells h);
-        told = λ p. (let q : p.0 ≡ ts = some_targets p.0 ts (sym p.1 ∙ e) in (unequal_decides (wholes ts)).told (subst (λ x. AreUnequal (wholes x)) q p.2));
+        told = λ p. (let q : p.0 ≡ ts = same_Some p.0 ts (sym p.1 ∙ e) in (unequal_decides (wholes ts)).told (subst (λ x. AreUnequal (wholes x)) q p.2));
       }
+  sizes_decide _ = record { tells = λ e. absurd cc; told = λ p. absurd p }
 
 -- each test that holds tells its reason, and the reasons stand in their order
 abbrev pub Told : (Why → Type 0) → List Bool → List Why → ℕ → Type 0
@@ -222,10 +192,7 @@ among_later B (b ∷ bs) (w ∷ ws) n o t (inr a) = let q = among_later B bs ws 
 first_least : (B : Why → Type 0) (bs : List Bool) (ws : List Why) (n : ℕ) (w o : Why) → Told B bs ws n → first_of bs ws ≡ Some w → Among bs ws o → (o ≡ w) ⊎ (order w < order o)
 first_least B [] ws n w o t e a = absurd a
 first_least B (b ∷ bs) [] n w o t e a = absurd a
-first_least B (true ∷ bs) (v ∷ ws) n w o t e (inl p) = inl (p.1 ∙ some_is v w e)
-  where
-    some_is : (v w : Why) → Some v ≡ Some w → v ≡ w
-    some_is v w e = cc
+first_least B (true ∷ bs) (v ∷ ws) n w o t e (inl p) = inl (p.1 ∙ same_Some v w e)
 first_least B (true ∷ bs) (v ∷ ws) n w o t e (inr a) =
     let q : v ≡ w = cc in let l = among_later B bs ws (suc n) o t.2 a in let m = t.1 refl in let r = ap order q in inr (omega arith)
 first_least B (false ∷ bs) (v ∷ ws) n w o t e (inl p) = absurd (let q : false ≡ true = p.0 in cc)
@@ -238,9 +205,6 @@ first_none B (true ∷ bs) (v ∷ ws) n o t e a = cc
 first_none B (false ∷ bs) (v ∷ ws) n o t e (inl p) = let q : false ≡ true = p.0 in cc
 first_none B (false ∷ bs) (v ∷ ws) n o t e (inr a) = first_none B bs ws (suc n) o t.2 e a
 
-some_act : (a b : Act) → Some a ≡ Some b → b ≡ a
-some_act a b e = cc
-
 module _ (before : List Act) (t : Taken) where
   -- what a statement does is definite
   call_does : (name : List ℕ) (angles : Option (List (List Lexeme))) (all : List Argument) (act : Act) → Yields (called_in before (call name angles all)) (listed angles) t
@@ -250,36 +214,24 @@ module _ (before : List Act) (t : Taken) where
       ap (λ x. act_on x (targets (registers before) all)) q ∙ ap (act_on (Ok (Some c.items))) c.means ∙ ap Some (sym c.does)
 
   does_act : (s : Statement) (act : Act) → Yields (called_in before s) (angles_of s) t → Does before s act → act_of before s t ≡ Some act
-  does_act version act y d = ap Some (sym d)
-  does_act (include text) act y d = ap Some (sym d)
-  does_act (qubits name size) act y d = ap Some (sym d)
-  does_act (bits name size) act y d = ap Some (sym d)
-  does_act (barrier all) act y d = ap Some (sym d)
   does_act (measure a b) act y d = ap measure_act d.1 ∙ ap Some (sym d.2)
   does_act (call name angles all) act y d = call_does name angles all act y d
-  does_act (left_out name more) act y d = ap Some (sym d)
+  does_act _ act y d = ap Some (sym d)
 
 act_measured : (x : Option Target) (act : Act) → measure_act x ≡ Some act → (t : Target) × (x ≡ Some t) × (act ≡ measures t)
 act_measured None act e = absurd cc
-act_measured (Some t) act e = (t, refl, some_act _ act e)
+act_measured (Some t) act e = (t, refl, sym (same_Some _ act e))
 
 act_called : (before : List Act) (name : List ℕ) (angles : Option (List (List Lexeme))) (all : List Argument) (act : Act) (t : Taken) (x : Option (List Target)) → targets (registers before) all ≡ x
     → Yields (called_in before (call name angles all)) (listed angles) t → act_on t x ≡ Some act → Calls before name (listed angles) all act
 act_called before name angles all act (Ok (Some items)) (Some ts) m y e =
-    record { called = y.0; values = y.1; items = items; on = ts; named = y.2; valued = y.3; gives = y.4; means = m; does = some_act _ act e }
-act_called before name angles all act (Ok (Some items)) None m y e = absurd cc
-act_called before name angles all act (Ok None) x m y e = absurd cc
-act_called before name angles all act (Err r) x m y e = absurd cc
+    record { called = y.0; values = y.1; items = items; on = ts; named = y.2; valued = y.3; gives = y.4; means = m; does = sym (same_Some _ act e) }
+act_called before name angles all act _ _ m y e = absurd cc
 
 pub act_does : (before : List Act) (s : Statement) (t : Taken) (act : Act) → Yields (called_in before s) (angles_of s) t → act_of before s t ≡ Some act → Does before s act
-act_does before version t act y e = some_act _ act e
-act_does before (include text) t act y e = some_act _ act e
-act_does before (qubits name size) t act y e = some_act _ act e
-act_does before (bits name size) t act y e = some_act _ act e
-act_does before (barrier all) t act y e = some_act _ act e
 act_does before (measure a b) t act y e = act_measured (target (registers before) a) act e
 act_does before (call name angles all) t act y e = act_called before name angles all act t (targets (registers before) all) refl y e
-act_does before (left_out name more) t act y e = some_act _ act e
+act_does before _ t act y e = sym (same_Some _ act e)
 
 exceeds_true : (most : ℕ) (x : Option Act) (count : Act → ℕ) → exceeds most x count ≡ true → (act : Act) × (x ≡ Some act) × (most < count act)
 exceeds_true most None count e = absurd cc
@@ -298,18 +250,13 @@ refused_order (Err e) b = refl
 refused_order (Ok x) b = absurd cc
 
 off_tells : (named : Option Named) (angles : List (List Lexeme)) (t : Taken) → Yields named angles t → is_off named t ≡ true → IsOffGrid named angles
-off_tells None angles t y b = absurd cc
 off_tells (Some called) angles (Ok None) y b = record { called = called; values = y.0; is = refl; valued = y.1; none = λ items g. y.2 called items refl g }
-off_tells (Some called) angles (Ok (Some items)) y b = absurd cc
-off_tells (Some called) angles (Err e) y b = absurd cc
+off_tells _ angles _ y b = absurd cc
 
 off_told : (named : Option Named) (angles : List (List Lexeme)) (t : Taken) → Yields named angles t → IsOffGrid named angles → is_off named t ≡ true
 off_told named angles t y o =
-    let q : t ≡ Ok None = yields_one named angles t (Ok None) y (o.values, o.valued, λ called items e g. o.none items (subst (λ c. Gives c o.values items) (same o.is e) g)) in
+    let q : t ≡ Ok None = yields_one named angles t (Ok None) y (o.values, o.valued, λ called items e g. o.none items (subst (λ c. Gives c o.values items) (same_Some called o.called (sym e ∙ o.is)) g)) in
     ap (λ x. is_off x t) o.is ∙ ap (is_off (Some o.called)) q
-  where
-    same : {x : Option Named} {c d : Named} → x ≡ Some c → x ≡ Some d → d ≡ c
-    same e f = cc
 
 module _ (limit : ℕ) (before : List Act) (s : Statement) (t : Taken) (y : Yields (called_in before s) (angles_of s) t) where
   abbrev TheTests : List Bool
@@ -324,57 +271,15 @@ module _ (limit : ℕ) (before : List Act) (s : Statement) (t : Taken) (y : Yiel
   gone : Decides (AtSomePlace (registers before) (Meets (measured before)) s) (some_place (registers before) (list_any (is_among (measured before))) s)
   gone = place_decides (registers before) (Meets (measured before)) (list_any (is_among (measured before))) (meets_decides (measured before)) s
 
+  qubits_tell : exceeds limit (act_of before s t) (λ act. qubit_count (before ++ act ∷ [])) ≡ true → Breaks limit before s TooManyQubits
+  qubits_tell e = let x = exceeds_true limit (act_of before s t) (λ act. qubit_count (before ++ act ∷ [])) e in (x.0, act_does before s t x.0 y x.1, x.2)
+
+  gates_tell : exceeds 1000000 (act_of before s t) (λ act. length (gates (before ++ act ∷ []))) ≡ true → Breaks limit before s TooManyGates
+  gates_tell e = let x = exceeds_true 1000000 (act_of before s t) (λ act. length (gates (before ++ act ∷ []))) e in (x.0, act_does before s t x.0 y x.1, x.2)
+
   -- the tests tell what a statement breaks
   tests_tell : Told (Breaks limit before s) TheTests (reasons t) 3
-  tests_tell = (
-    λ e. e,
-    λ e. refl,
-    (
-      λ e. e,
-      λ e. refl,
-      (
-        λ e. e,
-        λ e. refl,
-        (
-          λ e. e,
-          λ e. refl,
-          (
-            λ e. e,
-            λ e. refl,
-            (
-              λ e. e,
-              λ e. refl,
-              (
-                (sizes).tells,
-                λ e. refl,
-                (
-                  (twice).tells,
-                  λ e. refl,
-                  (
-                    refused_tells limit before s t y,
-                    refused_order t,
-                    (
-                      off_tells (called_in before s) (angles_of s) t y,
-                      λ e. refl,
-                      (
-                        (gone).tells,
-                        λ e. refl,
-                        (
-                          λ e. (let x = exceeds_true limit (act_of before s t) (λ act. qubit_count (before ++ act ∷ [])) e in (x.0, act_does before s t x.0 y x.1, x.2)),
-                          λ e. refl,
-                          (λ e. (let x = exceeds_true 1000000 (act_of before s t) (λ act. length (gates (before ++ act ∷ []))) e in (x.0, act_does before s t x.0 y x.1, x.2)), λ e. refl, tt),
-                        ),
-                      ),
-                    ),
-                  ),
-                ),
-              ),
-            ),
-          ),
-        ),
-      ),
-    ),
-  )
+  tests_tell = (λ e. e, λ e. refl, (λ e. e, λ e. refl, (λ e. e, λ e. refl, (λ e. e, λ e. refl, (λ e. e, λ e. refl, (λ e. e, λ e. refl, (sizes.tells, λ e. refl, (twice.tells, λ e. refl, (refused_tells limit before s t y, refused_order t, (off_tells (called_in before s) (angles_of s) t y, λ e. refl, (gone.tells, λ e. refl, (qubits_tell, λ e. refl, (gates_tell, λ e. refl, tt)))))))))))))
 
   -- what a statement breaks is told
   breaks_among : (o : Why) → Breaks limit before s o → Among TheTests (reasons t) o
@@ -387,13 +292,13 @@ module _ (limit : ℕ) (before : List Act) (s : Statement) (t : Taken) (y : Yiel
   breaks_among UnknownRegister b = inr (inr (inr (inl (b, refl))))
   breaks_among IndexOutOfRange b = inr (inr (inr (inr (inl (b, refl)))))
   breaks_among WrongCount b = inr (inr (inr (inr (inr (inl (b, refl))))))
-  breaks_among SizesDiffer b = inr (inr (inr (inr (inr (inr (inl ((sizes).told b, refl)))))))
-  breaks_among RepeatedQubit b = inr (inr (inr (inr (inr (inr (inr (inl ((twice).told b, refl))))))))
+  breaks_among SizesDiffer b = inr (inr (inr (inr (inr (inr (inl (sizes.told b, refl)))))))
+  breaks_among RepeatedQubit b = inr (inr (inr (inr (inr (inr (inr (inl (twice.told b, refl))))))))
   breaks_among (AngleRefused e) b =
       let q : t ≡ Err e = yields_one (called_in before s) (angles_of s) t (Err e) y b in
       inr (inr (inr (inr (inr (inr (inr (inr (inl (ap is_refused q, ap refusal_of (sym q))))))))))
   breaks_among OffGrid b = inr (inr (inr (inr (inr (inr (inr (inr (inr (inl (off_told (called_in before s) (angles_of s) t y b, refl))))))))))
-  breaks_among Measured b = inr (inr (inr (inr (inr (inr (inr (inr (inr (inr (inl ((gone).told b, refl)))))))))))
+  breaks_among Measured b = inr (inr (inr (inr (inr (inr (inr (inr (inr (inr (inl (gone.told b, refl)))))))))))
   breaks_among TooManyQubits b =
       inr (inr (inr (inr (inr (inr (inr (inr (inr (inr (inr (inl (exceeds_is limit (act_of before s t) (λ act. qubit_count (before ++ act ∷ [])) b.0 (does_act before t s b.0 y b.1) b.2, refl))))))))))))
   breaks_among TooManyGates b =
@@ -404,44 +309,19 @@ breaks_holds : (limit : ℕ) (before : List Act) (part : Part) (s : Statement) �
 breaks_holds limit before part s h (BadByte place) b = absurd b
 breaks_holds limit before part s h NoVersion b = absurd b
 breaks_holds limit before part s h NotAStatement b = absurd b
-breaks_holds limit before part s h OutOfProfile b = (s, h, b)
-breaks_holds limit before part s h UnknownName b = (s, h, b)
-breaks_holds limit before part s h Redeclared b = (s, h, b)
-breaks_holds limit before part s h UnknownRegister b = (s, h, b)
-breaks_holds limit before part s h IndexOutOfRange b = (s, h, b)
-breaks_holds limit before part s h WrongCount b = (s, h, b)
-breaks_holds limit before part s h SizesDiffer b = (s, h, b)
-breaks_holds limit before part s h RepeatedQubit b = (s, h, b)
-breaks_holds limit before part s h (AngleRefused e) b = (s, h, b)
-breaks_holds limit before part s h OffGrid b = (s, h, b)
-breaks_holds limit before part s h Measured b = (s, h, b)
-breaks_holds limit before part s h TooManyQubits b = (s, h, b)
-breaks_holds limit before part s h TooManyGates b = (s, h, b)
+breaks_holds limit before part s h _ b = (s, h, b)
 
--- the part is a statement with no bad place, and the only one that it is
+-- the part is a statement with no bad place
 pub record IsGood (before : List Act) (part : Part) (s : Statement) : Type 0 where
   pub has : Has before part s
-  pub one : (other : Statement) → Has before part other → other ≡ s
   pub no_bad : part.bad ≡ None
   pub first : before ≡ [] → s ≡ version
 
 holds_breaks : (limit : ℕ) (before : List Act) (part : Part) (s : Statement) → IsGood before part s → (o : Why) → Holds limit before part o → Breaks limit before s o
-holds_breaks limit before part s g (BadByte place) h = absurd (let q : None ≡ Some place = sym g.no_bad ∙ h in cc)
+holds_breaks limit before part s g (BadByte place) h = absurd (none-some place (sym g.no_bad ∙ h))
 holds_breaks limit before part s g NoVersion h = absurd (h.1 (subst (Has before part) (g.first h.0) g.has))
 holds_breaks limit before part s g NotAStatement h = absurd (h s g.has)
-holds_breaks limit before part s g OutOfProfile h = subst (λ x. Breaks limit before x OutOfProfile) (g.one h.0 h.1) h.2
-holds_breaks limit before part s g UnknownName h = subst (λ x. Breaks limit before x UnknownName) (g.one h.0 h.1) h.2
-holds_breaks limit before part s g Redeclared h = subst (λ x. Breaks limit before x Redeclared) (g.one h.0 h.1) h.2
-holds_breaks limit before part s g UnknownRegister h = subst (λ x. Breaks limit before x UnknownRegister) (g.one h.0 h.1) h.2
-holds_breaks limit before part s g IndexOutOfRange h = subst (λ x. Breaks limit before x IndexOutOfRange) (g.one h.0 h.1) h.2
-holds_breaks limit before part s g WrongCount h = subst (λ x. Breaks limit before x WrongCount) (g.one h.0 h.1) h.2
-holds_breaks limit before part s g SizesDiffer h = subst (λ x. Breaks limit before x SizesDiffer) (g.one h.0 h.1) h.2
-holds_breaks limit before part s g RepeatedQubit h = subst (λ x. Breaks limit before x RepeatedQubit) (g.one h.0 h.1) h.2
-holds_breaks limit before part s g (AngleRefused e) h = subst (λ x. Breaks limit before x (AngleRefused e)) (g.one h.0 h.1) h.2
-holds_breaks limit before part s g OffGrid h = subst (λ x. Breaks limit before x OffGrid) (g.one h.0 h.1) h.2
-holds_breaks limit before part s g Measured h = subst (λ x. Breaks limit before x Measured) (g.one h.0 h.1) h.2
-holds_breaks limit before part s g TooManyQubits h = subst (λ x. Breaks limit before x TooManyQubits) (g.one h.0 h.1) h.2
-holds_breaks limit before part s g TooManyGates h = subst (λ x. Breaks limit before x TooManyGates) (g.one h.0 h.1) h.2
+holds_breaks limit before part s g o h = subst (λ x. Breaks limit before x o) (has_one before part h.0 s h.1 g.has) h.2
 
 module _ (limit : ℕ) (before : List Act) (part : Part) (s : Statement) (t : Taken) (y : Yields (called_in before s) (angles_of s) t) (g : IsGood before part s) where
   -- the first test that holds gives the refusal

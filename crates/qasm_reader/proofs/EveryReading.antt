@@ -1,10 +1,12 @@
 -- Each text reads: as a circuit, or by a refusal.
-use Rattle.std.proofs.Common.{◌≡◌, ◌≢◌, ◌∙◌, sym, ap, refl, subst, ◌⊎◌, inl, inr, ℕ, ◌+◌, Bool, true, false, ◌||◌, not, List, [], ◌∷◌, ◌++◌, length, append_assoc, append-nil, Option, Some, None, is_some, Ok, Err}
+use Rattle.std.proofs.Common.{◌≡◌, ◌∙◌, sym, ap, refl, subst, ◌⊎◌, inl, inr, ℕ, ◌+◌, Bool, true, false, ◌||◌, not, List, [], ◌∷◌, ◌++◌, length, append_assoc, append-nil, Option, Some, None, is_some, Ok, Err}
 use Rattle.std.specs.List.{list_any}
+use Rattle.std.proofs.lemmas.Bool.{false_from_ne_true}
+use Rattle.std.proofs.lemmas.Option.{none-some}
 use Rattle.qasm_lex.specs.Lexemes.{Lexeme, word, mark, lexemes_of}
 use Rattle.qasm_lex.specs.Symbols.{decimal}
 use Rattle.qasm_lex.proofs.Cuts.{tokens_exist}
-use Rattle.qasm_forms.specs.Statements.{Statement, version, include, qubits, bits, barrier, measure, call, left_out, Argument, IsStatement, is_mark, first_word, written_rest, ended, written}
+use Rattle.qasm_forms.specs.Statements.{Statement, version, qubits, bits, measure, call, Argument, IsStatement, is_mark, first_word, written_rest, ended, written}
 use Rattle.qasm_forms.specs.Cutting.{begins_left}
 use Rattle.qasm_forms.specs.Private.Parsing.{statement_at}
 use Rattle.qasm_forms.proofs.Forms.{statement_found}
@@ -19,15 +21,10 @@ use Rattle.qasm_reader.specs.Reasons.{Refuses, IsFree, is_unknown, angles_of, ca
 use Rattle.qasm_reader.specs.Reading.{Accepts, AllAccepted, Reading, circuit, refusal, IsRefused, Reads, ReadsAs}
 use Rattle.qasm_reader.specs.Private.Tests.{Taken, Yields, tests, reasons, first_of}
 use Rattle.qasm_reader.proofs.Deciding.{IsGood, refuses, free}
-use Rattle.qasm_reader.proofs.Good.{has_one, bad_refuses, version_refuses, form_refuses}
+use Rattle.qasm_reader.proofs.Good.{some_acts, bad_refuses, version_refuses, form_refuses}
 use Rattle.qasm_reader.proofs.Looking.{target_known, targets_known}
-use Rattle.qasm_reader.proofs.PartCuts.{semicolon_is}
+use Rattle.qasm_forms.proofs.Nesting.{mark_is}
 use Rattle.qasm_reader.proofs.Yielding.{every_yield}
-
--- a test that doesn't hold
-fails : (b : Bool) → (b ≡ true → ⊥) → b ≡ false
-fails true n = absurd (n refl)
-fails false n = refl
 
 module _ (limit : ℕ) (before : List Act) (part : Part) where
   module _ (free : IsFree limit before part) where
@@ -38,26 +35,23 @@ module _ (limit : ℕ) (before : List Act) (part : Part) where
     call_does name angles all h (Some called) b (Ok None) y =
         absurd (free OffGrid (call name angles all, h, record { called = called; values = y.0; is = b; valued = y.1; none = λ items g. y.2 called items refl g }))
     call_does name angles all h (Some called) b (Ok (Some items)) y =
-        let u : list_any (is_unknown (registers before) true) all ≡ false = fails _ (λ e. free UnknownRegister (call name angles all, h, ap (λ x. x || false) e)) in
+        let u : list_any (is_unknown (registers before) true) all ≡ false = false_from_ne_true _ (λ e. free UnknownRegister (call name angles all, h, ap (λ x. x || false) e)) in
         let ts = targets_known (registers before) all u in
         (applies items ts.0, record { called = y.0; values = y.1; items = items; on = ts.0; named = b ∙ y.2; valued = y.3; gives = y.4; means = ts.1; does = refl })
 
     measure_does : (from to : Argument) → Has before part (measure from to) → (act : Act) × Does before (measure from to) act
     measure_does from to h =
-        let u : is_unknown (registers before) true from ≡ false = fails _ (λ e. free UnknownRegister (measure from to, h, ap (λ x. (x || false) || (is_unknown (registers before) false to || false)) e)) in
+        let u : is_unknown (registers before) true from ≡ false = false_from_ne_true _ (λ e. free UnknownRegister (measure from to, h, ap (λ x. (x || false) || (is_unknown (registers before) false to || false)) e)) in
         let t = target_known (registers before) from u in
         (measures t.0, (t.0, t.1, refl))
 
     -- a statement that nothing refuses does something
     does : (s : Statement) → Has before part s → (act : Act) × Does before s act
-    does version h = (nothing, refl)
-    does (include text) h = (nothing, refl)
     does (qubits name size) h = (declares true name (decimal size), refl)
     does (bits name size) h = (declares false name (decimal size), refl)
-    does (barrier all) h = (nothing, refl)
     does (measure from to) h = measure_does from to h
     does (call name angles all) h = let y = every_yield (gate_named before name) (listed angles) in call_does name angles all h (gate_named before name) refl y.0 y.1
-    does (left_out name more) h = (nothing, refl)
+    does _ h = (nothing, refl)
 
   -- accepted, or refused
   abbrev pub Decided : Type 0
@@ -78,15 +72,9 @@ module _ (limit : ℕ) (before : List Act) (part : Part) where
           inl (d.0, record { free = f; statement = s; has = g.has; does = d.1 })
 
 -- a statement is the version or isn't
-version_or_not : (s : Statement) → (s ≡ version) ⊎ (s ≡ version → ⊥)
+pub version_or_not : (s : Statement) → (s ≡ version) ⊎ (s ≡ version → ⊥)
 version_or_not version = inl refl
-version_or_not (include text) = inr (λ e. cc)
-version_or_not (qubits name size) = inr (λ e. cc)
-version_or_not (bits name size) = inr (λ e. cc)
-version_or_not (barrier all) = inr (λ e. cc)
-version_or_not (measure from to) = inr (λ e. cc)
-version_or_not (call name angles all) = inr (λ e. cc)
-version_or_not (left_out name more) = inr (λ e. cc)
+version_or_not _ = inr (λ e. cc)
 
 -- lexemes end a statement or don't
 ended_or_not : (ls : List Lexeme) → ((front : List Lexeme) × (ls ≡ ended front)) ⊎ ((front : List Lexeme) → ls ≡ ended front → ⊥)
@@ -103,7 +91,7 @@ ended_or_not (l ∷ []) = by (is_mark 59 l) refl
     none f (m ∷ n ∷ front) e = cc
 
     by : (b : Bool) → is_mark 59 l ≡ b → ((front : List Lexeme) × (l ∷ [] ≡ ended front)) ⊎ ((front : List Lexeme) → l ∷ [] ≡ ended front → ⊥)
-    by true e = inl ([], ap (λ x. x ∷ []) (semicolon_is l e))
+    by true e = inl ([], ap (λ x. x ∷ []) (mark_is 59 l e))
     by false e = inr (none e)
 ended_or_not (l ∷ m ∷ ls) = elim (ended_or_not (m ∷ ls)) [
   | inl f ↦ inl (l ∷ f.0, ap (λ r. l ∷ r) f.1)
@@ -114,34 +102,28 @@ ended_or_not (l ∷ m ∷ ls) = elim (ended_or_not (m ∷ ls)) [
     none n [] e = cc
     none n (x ∷ front) e = n front cc
 
-written_one : (before : List Act) (part : Part) (s t : Statement) → IsStatement (leaves before) s → IsStatement (leaves before) t → part.lexemes ≡ written s → part.lexemes ≡ written t → s ≡ t
-written_one before part s t f g e h = statements_same (leaves before) s t f g (sym e ∙ h)
-
-some_acts : (a : Act) (before : List Act) → a ∷ before ≢ []
-some_acts a before e = cc
-
 module _ (limit : ℕ) where
   -- what is no statement is refused
   none_decided : (before : List Act) (part : Part) → part.bad ≡ None → ((s : Statement) → Has before part s → ⊥) → Decided limit before part
   none_decided [] part e n = inr (NoVersion, version_refuses limit [] part e refl (n version))
-  none_decided (a ∷ before) part e n = inr (NotAStatement, form_refuses limit (a ∷ before) part e (some_acts a before) n)
+  none_decided (a ∷ before) part e n = inr (NotAStatement, form_refuses limit (a ∷ before) part e (some_acts (a ∷ before) refl) n)
 
   -- a statement is in its place, or is refused
   placed_decided : (before : List Act) (part : Part) (s : Statement) → (s ≡ version) ⊎ (s ≡ version → ⊥) → part.bad ≡ None → part.lexemes ≡ written s → IsStatement (leaves before) s → Decided limit before part
   placed_decided [] part s (inl v) e w f =
       let h : Has [] part s = record { spelled = w; statement = f; first = λ p. refl } in
-      good_decided limit [] part s (record { has = h; one = λ o g. has_one [] part o s g h; no_bad = e; first = λ p. v })
+      good_decided limit [] part s (record { has = h; no_bad = e; first = λ p. v })
   placed_decided [] part s (inr n) e w f =
-      inr (NoVersion, version_refuses limit [] part e refl (λ g. n (written_one [] part s version f g.statement w g.spelled)))
+      inr (NoVersion, version_refuses limit [] part e refl (λ g. n (statements_same (leaves []) s version f g.statement (sym w ∙ g.spelled))))
   placed_decided (a ∷ before) part s (inl v) e w f =
       inr (
         NotAStatement,
-        form_refuses limit (a ∷ before) part e (some_acts a before)
-            (λ o g. some_acts a before (g.first (written_one (a ∷ before) part o s g.statement f g.spelled w ∙ v))),
+        form_refuses limit (a ∷ before) part e (some_acts (a ∷ before) refl)
+            (λ o g. some_acts (a ∷ before) refl (g.first (statements_same (leaves (a ∷ before)) o s g.statement f (sym g.spelled ∙ w) ∙ v))),
       )
   placed_decided (a ∷ before) part s (inr n) e w f =
       let h : Has (a ∷ before) part s = record { spelled = w; statement = f; first = λ p. absurd (n p) } in
-      good_decided limit (a ∷ before) part s (record { has = h; one = λ o g. has_one (a ∷ before) part o s g h; no_bad = e; first = λ p. absurd (some_acts a before p) })
+      good_decided limit (a ∷ before) part s (record { has = h; no_bad = e; first = λ p. absurd (some_acts (a ∷ before) refl p) })
 
   -- each part is accepted or refused
   decided : (before : List Act) (part : Part) → Decided limit before part
@@ -149,7 +131,7 @@ module _ (limit : ℕ) where
     where
       read : (front : List Lexeme) → part.bad ≡ None → part.lexemes ≡ ended front → (found : Option Statement) → statement_at (begins_left (leaves before) front) front ≡ found → Decided limit before part
       read front e w None f =
-          none_decided before part e (λ s h. (let q : Some s ≡ None = sym (read_as (leaves before) front s h.statement (sym w ∙ h.spelled)) ∙ f in cc))
+          none_decided before part e (λ s h. none-some s (sym f ∙ read_as (leaves before) front s h.statement (sym w ∙ h.spelled)))
       read front e w (Some s) f =
           let r = statement_found (begins_left (leaves before) front) front s f in
           placed_decided before part s (version_or_not s) e (w ∙ ap ended r.spelled) (record { formed = r.formed; tried = sym (ap (begins_left (leaves before)) r.spelled) ∙ r.tried })

@@ -1,21 +1,14 @@
--- Small facts on tests, numbers and results that several files use.
-use Rattle.std.proofs.Common.{◌≡◌, ◌≤◌, ℕ, Bool, true, false, ◌||◌, nat_eq, nat_lt, refl, arith, Result, Ok, Err, IfOk}
-use Rattle.std.proofs.lemmas.Bool.Decides.{nat_tests}
+-- Facts on results and lists that several files use.
+use Rattle.std.proofs.Common.{◌≡◌, Bool, true, false, cond, List, ◌∷◌, refl, Result, Ok, Err}
 
-pub neither : (a b : Bool) → a || b ≡ false → (a ≡ false) × (b ≡ false)
-neither true b e = absurd cc
-neither false b e = (refl, e)
+-- what went on passed the test
+pub passes : {A B : Type 0} (b : Bool) (w : B) (r : Result A B) (a : A) → cond b (Err w) r ≡ Ok a → (b ≡ false) × (r ≡ Ok a)
+passes true w r a e = absurd cc
+passes false w r a e = (refl, e)
 
-pub same_numbers : (m n : ℕ) → nat_eq m n ≡ true → m ≡ n
-same_numbers m n e = grind (arith, nat_tests)
+-- lists that are the same begin with the same, and go on so
+pub same_first : {X : Type 0} {x y : X} {xs ys : List X} → x ∷ xs ≡ y ∷ ys → x ≡ y
+same_first e = cc
 
-pub not_less : (m n : ℕ) → n ≤ m → nat_lt m n ≡ false
-not_less m n h = grind (arith, nat_tests)
-
-pub at_most : (m n : ℕ) → nat_lt m n ≡ false → n ≤ m
-at_most m n h = grind (arith, nat_tests)
-
--- what holds of a result holds where it follows
-pub if_ok : {A E : Type 0} (r : Result A E) (P Q : A → Type 0) → ((a : A) → P a → Q a) → IfOk r P → IfOk r Q
-if_ok (Ok a) P Q f p = f a p
-if_ok (Err e) P Q f p = tt
+pub same_rest : {X : Type 0} {x y : X} {xs ys : List X} → x ∷ xs ≡ y ∷ ys → xs ≡ ys
+same_rest e = cc

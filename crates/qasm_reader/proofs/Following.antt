@@ -1,6 +1,8 @@
 -- A statement that is carried out does what it means, or is refused for its first reason.
-use Rattle.std.proofs.Common.{◌≡◌, ◌≢◌, ◌∙◌, sym, ap, refl, subst, ◌≤◌, ◌<◌, ℕ, ◌+◌, ◌*◌, Bool, true, false, not, cond, ◌||◌, nat_eq, List, [], ◌∷◌, ◌++◌, length, All, Option, Some, None, Result, Ok, Err, IfSome}
+use Rattle.std.proofs.Common.{◌≡◌, ◌≢◌, ◌∙◌, sym, ap, refl, subst, ◌≤◌, ◌<◌, ℕ, ◌+◌, ◌*◌, Bool, true, false, not, nat_eq, List, [], ◌∷◌, ◌++◌, length, All, Option, Some, None, Result, Ok, Err, IfSome}
 use mathlib.Core.Bool.{beq}
+use Rattle.std.proofs.lemmas.Bool.{true_from_ne_false, eqb-true, ltb-false, not-false, or_parts}
+use Rattle.std.proofs.lemmas.Option.{same_Some}
 use Rattle.qasm_lex.specs.Lexemes.{Lexeme}
 use Rattle.qasm_lex.specs.Symbols.{decimal}
 use Rattle.qasm_forms.specs.Statements.{Statement, version, include, qubits, bits, barrier, measure, call, left_out, Argument, IsStatement, ended, written}
@@ -18,26 +20,16 @@ use Rattle.qasm_reader.specs.Reasons.{Refuses, is_unknown, is_beyond, angles_of,
 use Rattle.qasm_reader.specs.Private.Scope.{find, both_found, why_missed, differ, repeats}
 use Rattle.qasm_reader.specs.Private.Tests.{Taken, Yields, other_count, tests, reasons, first_of}
 use Rattle.qasm_reader.specs.Private.Drafts.{Draft, Follows, Concludes, outcome, measured_on, with_qubits, with_bits, with_measured, with_gates, bodied, counted_on, applied, applied_to, call_on, step, is_version, is_first, no_form, ended_part}
-use Rattle.qasm_reader.proofs.Good.{has_one, version_refuses, form_refuses}
+use Rattle.qasm_reader.proofs.Good.{no_acts, some_acts, version_refuses, form_refuses}
 use Rattle.qasm_reader.proofs.Deciding.{IsGood, refuses, free}
 use Rattle.qasm_reader.proofs.Growing.{follows_nothing, follows_qubits, follows_bits, follows_measures, follows_applies}
 use Rattle.qasm_reader.proofs.Looking.{Finding, unknown, beyond, found, finding}
 use Rattle.qasm_reader.proofs.Placing.{qubit_below, call_on_qubits}
 use Rattle.qasm_reader.proofs.Reasoning.{why_of, told}
-use Rattle.qasm_reader.proofs.Facts.{same_numbers, at_most}
+use Rattle.qasm_reader.proofs.Facts.{passes}
 
-ok_is : {A B : Type 0} (r : Result A B) (a b : A) → r ≡ Ok a → r ≡ Ok b → a ≡ b
-ok_is r a b e h = cc
-
--- what went on passed the test
-passes : {A B : Type 0} (b : Bool) (w : B) (r : Result A B) (a : A) → cond b (Err w) r ≡ Ok a → (b ≡ false) × (r ≡ Ok a)
-passes true w r a e = absurd cc
-passes false w r a e = (refl, e)
-
-nots_none : (a b : Bool) → not a || not b ≡ false → (a ≡ true) × (b ≡ true)
-nots_none true true e = (refl, refl)
-nots_none true false e = absurd cc
-nots_none false b e = absurd cc
+same_ok : {A B : Type 0} (a b : A) → ◌≡◌ {A = Result A B} (Ok a) (Ok b) → a ≡ b
+same_ok a b e = cc
 
 -- two that are found
 record BothFound (d : Draft) (from to : Argument) (e : Draft) : Type 0 where
@@ -56,7 +48,7 @@ both_sides d from to e (beyond u b f) (Err m) h = absurd (let q : Err (why_misse
 both_sides d from to e (found x u b w f) (Err m) h = absurd (let q : Err (why_missed m) ≡ Ok e = sym (ap (λ x. measured_on d (both_found x (Err m))) f) ∙ h in cc)
 both_sides d from to e (found x u b w f) (Ok y) h =
     let p = passes (other_count x y) SizesDiffer (Ok (with_measured d (qubits_of x))) e (sym (ap (λ z. measured_on d (both_found z (Ok y))) f) ∙ h) in
-    record { side = x; other = y; known = u; within = b; is = w; after = ok_is _ _ e refl p.1 }
+    record { side = x; other = y; known = u; within = b; is = w; after = same_ok _ e p.1 }
 
 -- a call that passes its tests
 record Applied (d : Draft) (t : Taken) (ts : List Target) (e : Draft) : Type 0 where
@@ -73,7 +65,7 @@ counted d (Ok None) ts e a o h = absurd cc
 counted d (Ok (Some items)) ts e a o h =
     let p = passes _ Measured _ e h in
     let q = passes _ TooManyGates _ e p.1 in
-    record { items = items; taken = refl; alike = a; once = o; few = at_most 1000000 _ q.0; after = ok_is _ _ e refl q.1 }
+    record { items = items; taken = refl; alike = a; once = o; few = ltb-false 1000000 _ q.0; after = same_ok _ e q.1 }
 
 applied_ok : (d : Draft) (t : Taken) (ts : List Target) (e : Draft) → applied d t ts ≡ Ok e → Applied d t ts e
 applied_ok d t ts e h = let p = passes _ SizesDiffer _ e h in let q = passes _ RepeatedQubit _ e p.1 in counted d t ts e p.0 q.0 q.1
@@ -91,7 +83,7 @@ module _ (limit : ℕ) (few : limit ≤ 64) (before : List Act) (d : Draft) (f :
   their_registers = ap (λ (d : Draft). d.registers) f.is
 
   nothing_done : (s : Statement) (e : Draft) → Does before s nothing → (r : Result Draft Why) → r ≡ Ok d → r ≡ Ok e → Done s e
-  nothing_done s e does r g h = (nothing, does, subst (Follows limit (before ++ nothing ∷ [])) (ok_is r d e g h) (follows_nothing limit before d f))
+  nothing_done s e does r g h = (nothing, does, subst (Follows limit (before ++ nothing ∷ [])) (same_ok d e (sym g ∙ h)) (follows_nothing limit before d f))
 
   qubits_done : (name size : List ℕ) (t : Taken) (e : Draft) → step limit d (qubits name size) t ≡ Ok e → Done (qubits name size) e
   qubits_done name size t e h =
@@ -100,14 +92,14 @@ module _ (limit : ℕ) (few : limit ≤ 64) (before : List Act) (d : Draft) (f :
       let r = passes _ TooManyQubits (Ok (with_qubits d name (decimal size))) e q.1 in (
         declares true name (decimal size),
         refl,
-        subst (Follows limit (before ++ declares true name (decimal size) ∷ [])) (ok_is _ _ e refl r.1) (follows_qubits limit before d f name (decimal size) few (at_most limit _ r.0)),
+        subst (Follows limit (before ++ declares true name (decimal size) ∷ [])) (same_ok _ e r.1) (follows_qubits limit before d f name (decimal size) few (ltb-false limit _ r.0)),
       )
 
   bits_done : (name size : List ℕ) (t : Taken) (e : Draft) → step limit d (bits name size) t ≡ Ok e → Done (bits name size) e
   bits_done name size t e h =
       let p = passes _ Redeclared _ e h in
       let q = passes _ IndexOutOfRange (Ok (with_bits d name (decimal size))) e p.1 in
-      (declares false name (decimal size), refl, subst (Follows limit (before ++ declares false name (decimal size) ∷ [])) (ok_is _ _ e refl q.1) (follows_bits limit before d f name (decimal size)))
+      (declares false name (decimal size), refl, subst (Follows limit (before ++ declares false name (decimal size) ∷ [])) (same_ok _ e q.1) (follows_bits limit before d f name (decimal size)))
 
   barrier_done : (all : List Argument) (t : Taken) (e : Draft) → step limit d (barrier all) t ≡ Ok e → Done (barrier all) e
   barrier_done all t e h =
@@ -130,10 +122,10 @@ module _ (limit : ℕ) (few : limit ≤ 64) (before : List Act) (d : Draft) (f :
       let p = passes _ UnknownRegister _ e h in
       let q = passes _ IndexOutOfRange _ e p.1 in
       let r = passes _ WrongCount _ e q.1 in
-      let counts = nots_none (nat_eq (length all) (arity called)) (nat_eq (length (listed angles)) (angle_count called)) r.0 in
+      let counts = or_parts (not (nat_eq (length all) (arity called))) (not (nat_eq (length (listed angles)) (angle_count called))) r.0 in
       let x = applied_some d t (targets d.registers all) e r.1 in
       let given = subst (Yields (builtin name) (listed angles)) (x.2).taken y in
-      let same : called ≡ given.0 = named_same (builtin name) called given.0 b given.2 in (
+      let same : called ≡ given.0 = same_Some called given.0 (sym b ∙ given.2) in (
         applies (x.2).items x.0,
         record {
           called = given.0;
@@ -148,12 +140,9 @@ module _ (limit : ℕ) (few : limit ≤ 64) (before : List Act) (d : Draft) (f :
         },
         subst (Follows limit (before ++ applies (x.2).items x.0 ∷ [])) (x.2).after
             (follows_applies limit before d f (x.2).items x.0
-            (call_on_qubits d f.fits name given.0 all x.0 given.1 (x.2).items given.2 p.0 q.0 x.1 (same_numbers _ _ counts.0 ∙ ap arity same) given.4 (x.2).alike (x.2).once)
+            (call_on_qubits d f.fits name given.0 all x.0 given.1 (x.2).items given.2 p.0 q.0 x.1 (eqb-true _ _ (not-false _ counts.0) ∙ ap arity same) given.4 (x.2).alike (x.2).once)
             (x.2).few),
       )
-    where
-      named_same : (x : Option Named) (c d : Named) → x ≡ Some c → x ≡ Some d → c ≡ d
-      named_same x c d e f = cc
 
   pub done : (s : Statement) (t : Taken) (e : Draft) → Yields (called_in before s) (angles_of s) t → step limit d s t ≡ Ok e → Done s e
   done version t e y h = nothing_done version e refl (Ok d) refl h
@@ -172,7 +161,7 @@ module _ (limit : ℕ) (few : limit ≤ 64) (before : List Act) (d : Draft) (f :
       ap (λ x. why_of (step limit x s t)) f.is ∙ told limit before few_qubits few_gates (subst (λ x. All (λ q. q < x.qubits) (measured before)) f.is f.marked) s t y
 
   -- what comes of a statement that stands in its place
-  concludes : (part : Part) (s : Statement) (t : Taken) → IsGood before part s → Yields (called_in before s) (angles_of s) t → (why : Option Why) (e : Draft) → outcome why e ≡ step limit d s t → Concludes limit before part why e
+  pub concludes : (part : Part) (s : Statement) (t : Taken) → IsGood before part s → Yields (called_in before s) (angles_of s) t → (why : Option Why) (e : Draft) → outcome why e ≡ step limit d s t → Concludes limit before part why e
   concludes part s t g y None e h =
       let x = done s t e y (sym h) in
       (x.0, record { free = free limit before part s t y g (sym (tells s t y) ∙ ap why_of (sym h)); statement = s; has = g.has; does = x.1 }, x.2)
@@ -181,21 +170,7 @@ module _ (limit : ℕ) (few : limit ≤ 64) (before : List Act) (d : Draft) (f :
 -- the first statement is the version, and no other one
 version_is : (s : Statement) → is_version s ≡ true → s ≡ version
 version_is version e = refl
-version_is (include text) e = absurd cc
-version_is (qubits name size) e = absurd cc
-version_is (bits name size) e = absurd cc
-version_is (barrier all) e = absurd cc
-version_is (measure from to) e = absurd cc
-version_is (call name angles all) e = absurd cc
-version_is (left_out name more) e = absurd cc
-
-no_acts : (before : List Act) → true ≡ is_first before → before ≡ []
-no_acts [] e = refl
-no_acts (a ∷ before) e = absurd cc
-
-some_acts : (before : List Act) → false ≡ is_first before → before ≢ []
-some_acts [] e h = cc
-some_acts (a ∷ before) e h = cc
+version_is _ e = absurd cc
 
 module _ (limit : ℕ) (before : List Act) (ls : List Lexeme) where
   -- lexemes that are no statement
@@ -212,16 +187,12 @@ module _ (limit : ℕ) (before : List Act) (ls : List Lexeme) where
       version_refuses limit before (ended_part ls) refl (no_acts before e) (λ h. n (ap is_version (same s version f h.statement w h.spelled)))
   out_of_place s false e f w n =
       form_refuses limit before (ended_part ls) refl (some_acts before e)
-      (λ t h. some_acts before e (h.first (sym (same s t f h.statement w h.spelled) ∙ version_is s (not_false (is_version s) n))))
-    where
-      not_false : (b : Bool) → b ≢ false → b ≡ true
-      not_false true n = refl
-      not_false false n = absurd (n refl)
+      (λ t h. some_acts before e (h.first (sym (same s t f h.statement w h.spelled) ∙ version_is s (true_from_ne_false (is_version s) n))))
 
   in_place : (s : Statement) → is_first before ≡ is_version s → IsStatement (leaves before) s → ended ls ≡ written s → IsGood before (ended_part ls) s
   in_place s e f w =
       let h : Has before (ended_part ls) s = record { spelled = w; statement = f; first = λ q. no_acts before (sym (e ∙ ap is_version q)) } in
-      record { has = h; one = λ o g. has_one before (ended_part ls) o s g h; no_bad = refl; first = λ b. version_is s (sym e ∙ ap is_first b) }
+      record { has = h; no_bad = refl; first = λ b. version_is s (sym e ∙ ap is_first b) }
 
   pub carried_out : (few : limit ≤ 64) (d : Draft) → Follows limit before d → (s : Statement) (t : Taken) (first : Bool) → first ≡ is_first before → is_version s ≡ first → IsStatement (leaves before) s → ended ls ≡ written s
       → Yields (called_in before s) (angles_of s) t → (why : Option Why) (e : Draft) → outcome why e ≡ step limit d s t → Concludes limit before (ended_part ls) why e
@@ -237,23 +208,15 @@ some_shown x form P e h = subst (λ y. IfSome y P) e h
 
 -- what the gate of a name is doesn't hang on what was done before
 pub same_called : (before : List Act) (s : Statement) → called_in before s ≡ called_in [] s
-same_called before version = refl
-same_called before (include text) = refl
-same_called before (qubits name size) = refl
-same_called before (bits name size) = refl
-same_called before (barrier all) = refl
-same_called before (measure from to) = refl
 same_called before (call name angles all) = refl
-same_called before (left_out name more) = refl
+same_called before _ = refl
 
 pub differs : (a b : Bool) → not (beq a b) ≡ true → a ≢ b
 differs true true e h = cc
 differs false false e h = cc
-differs true false e h = cc
-differs false true e h = cc
+differs _ _ e h = cc
 
 pub agrees : (a b : Bool) → not (beq a b) ≡ false → a ≡ b
 agrees true true e = refl
 agrees false false e = refl
-agrees true false e = absurd cc
-agrees false true e = absurd cc
+agrees _ _ e = absurd cc

@@ -2,8 +2,7 @@
 use Rattle.std.proofs.Common.{◌≡◌, ◌≢◌, ◌∙◌, sym, ap, refl, subst, ◌≤◌, ◌<◌, ◌⊎◌, inl, inr, ℕ, zero, suc, ◌+◌, ◌*◌, Bool, true, false, ◌||◌, nat_eq, List, [], ◌∷◌, ◌++◌, length, map, replicate, set, get_or, All, append_assoc, arith, length-append}
 use Rattle.std.specs.List.{flat_map, AllByRecursion}
 use Rattle.std.proofs.Math.Nat.{mul-suc}
-use Rattle.std.proofs.lemmas.Bool.{cases_lt, cases_order, eq-eqb}
-use Rattle.std.proofs.lemmas.Bool.Decides.{eqb_tells}
+use Rattle.std.proofs.lemmas.Bool.{cases_lt, cases_order, eq-eqb, ne_eqb, or_right}
 use Rattle.std.proofs.lemmas.List.{length-map, length-replicate, length-set, map-append, get_or-map, get_or_past, get_or_append_left, get_or_at, set_past, set_at, set-append_left, append-nil}
 use Rattle.std.proofs.lemmas.List.Elements.{All-append, All-nil, All-map, All-push, All-weaker, All-head, All-tail}
 use Rattle.std.proofs.lemmas.List.Folds.{list_any-append, list_any_none}
@@ -61,16 +60,9 @@ gates_more before a = flat_map-append gates_in before (a ∷ []) ∙ ap (λ r. g
 pub measured_more : (before : List Act) (a : Act) → measured (before ++ a ∷ []) ≡ measured before ++ measured_in a
 measured_more before a = flat_map-append measured_in before (a ∷ []) ∙ ap (λ r. measured before ++ r) (append-nil (measured_in a))
 
-other_number : (p q : ℕ) → q ≢ p → nat_eq q p ≡ false
-other_number p q h = by (eqb_tells q p)
-  where
-    by : ((nat_eq q p ≡ true) × (q ≡ p)) ⊎ ((nat_eq q p ≡ false) × (q ≢ p)) → nat_eq q p ≡ false
-    by (inl r) = absurd (h r.1)
-    by (inr r) = r.0
-
 -- a number that isn't below the bound of all of them isn't among them
 not_among : (n : ℕ) (gone : List ℕ) (q : ℕ) → All (λ p. p < n) gone → n ≤ q → is_among gone q ≡ false
-not_among n gone q a h = list_any_none (nat_eq q) gone (All-weaker (λ p. p < n) (λ p. nat_eq q p ≡ false) (λ p l. other_number p q (λ e. omega arith)) gone a)
+not_among n gone q a h = list_any_none (nat_eq q) gone (All-weaker (λ p. p < n) (λ p. nat_eq q p ≡ false) (λ p l. ne_eqb q p (λ e. omega arith)) gone a)
 
 pub flagged_is : (n : ℕ) (gone : List ℕ) (q : ℕ) → All (λ p. p < n) gone → flagged (map (is_among gone) (up_to n)) q ≡ is_among gone q
 flagged_is n gone q a = elim (cases_lt q n) [
@@ -117,15 +109,11 @@ module _ (f g : ℕ → Bool) (q : ℕ) (here : g q ≡ true) (others : (x : ℕ
   set_flag zero = refl
   set_flag (suc n) = ap (λ l. set l q true) (map-append f (up_to n) (n ∷ [])) ∙ set_last n (set_flag n) ∙ sym (map-append g (up_to n) (n ∷ []))
 
-or_true : (b : Bool) → b || true ≡ true
-or_true true = refl
-or_true false = refl
-
 among_last : (gone : List ℕ) (q : ℕ) → is_among (gone ++ q ∷ []) q ≡ true
-among_last gone q = list_any-append (nat_eq q) gone (q ∷ []) ∙ ap (λ b. is_among gone q || (b || false)) (eq-eqb q q refl) ∙ or_true (is_among gone q)
+among_last gone q = list_any-append (nat_eq q) gone (q ∷ []) ∙ or_right (is_among gone q) _ (ap (λ b. b || false) (eq-eqb q q refl))
 
 among_others : (gone : List ℕ) (q x : ℕ) → x ≢ q → is_among gone x ≡ is_among (gone ++ q ∷ []) x
-among_others gone q x h = sym (list_any-append (nat_eq x) gone (q ∷ []) ∙ ap (λ b. is_among gone x || (b || false)) (other_number q x h) ∙ or-false (is_among gone x))
+among_others gone q x h = sym (list_any-append (nat_eq x) gone (q ∷ []) ∙ ap (λ b. is_among gone x || (b || false)) (ne_eqb x q h) ∙ or-false (is_among gone x))
 
 -- raising flags marks more numbers
 pub raised_is : (n : ℕ) (gone qs : List ℕ) → raised (map (is_among gone) (up_to n)) qs ≡ map (is_among (gone ++ qs)) (up_to n)
@@ -317,3 +305,12 @@ module _ (limit : ℕ) (before : List Act) (d : Draft) (f : Follows limit before
         flags = f.fits.flags;
         registers_end = f.fits.registers_end;
       }
+
+-- the draft of no statement
+pub follows_none : (limit : ℕ) → Follows limit [] (draft_of [])
+follows_none limit = record {
+  is = refl;
+  fits = record { few_qubits = omega arith; few_gates = omega arith; within = All-nil _; flags = refl; registers_end = tt };
+  few = omega arith;
+  marked = All-nil _;
+}

@@ -15,3 +15,4 @@ pub mod PartCuts
 pub mod Onward
 pub mod OneReading
 pub mod EveryReading
+pub mod Sound

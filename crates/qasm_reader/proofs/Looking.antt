@@ -1,14 +1,15 @@
 -- What arguments mean, looked up one after the other.
-use Rattle.std.proofs.Common.{◌≡◌, ◌∙◌, sym, ap, refl, ◌≤◌, ◌<◌, ℕ, suc, ◌+◌, Bool, true, false, ◌||◌, not, cond, nat_lt, nat_le, List, [], ◌∷◌, ◌++◌, length, append_assoc, append-nil, length-append, Option, Some, None, Ok, Err, arith}
+use Rattle.std.proofs.Common.{◌≡◌, ◌∙◌, sym, ap, refl, ◌≤◌, ℕ, suc, ◌+◌, Bool, true, false, ◌||◌, not, cond, nat_lt, nat_le, List, [], ◌∷◌, ◌++◌, length, append_assoc, append-nil, length-append, Option, Some, None, Ok, Err, arith}
 use Rattle.std.specs.List.{list_any}
-use Rattle.std.proofs.Math.Bool.{or-false}
+use Rattle.std.proofs.Math.Bool.{or-false, or_assoc}
+use Rattle.std.proofs.lemmas.Bool.{or_parts, or_right, le-ltb, lt-ltb, ltb-true}
+use Rattle.std.proofs.lemmas.Option.{same_Some}
 use Rattle.std.proofs.lemmas.Bool.Decides.{nat_tests}
 use Rattle.qasm_forms.specs.Statements.{Argument}
 use Rattle.qasm_reader.specs.declared.registers.Miss.TheVariants.{Unknown, Beyond}
 use Rattle.qasm_reader.specs.Acts.{Register, Target, register, index_of, place_in, target_in, target, targets, with_first}
 use Rattle.qasm_reader.specs.Reasons.{same_sort, reaches, is_unknown, is_beyond}
 use Rattle.qasm_reader.specs.Private.Scope.{placed_at, find_in, find, Found, nothing_found, next_count, noted, look, capped}
-use Rattle.qasm_reader.proofs.Facts.{neither, not_less}
 
 -- what a look-up finds
 pub data Finding (x : Option Register) (quantum : Bool) (index : Option ℕ) : Type 0 where
@@ -34,17 +35,6 @@ finding (Some r) quantum index = by (same_sort quantum (Some r)) refl
     by true e = indexed index e
     by false e = unknown (ap not e) (ap (λ b. cond b (placed_at r index) (Err Unknown)) e)
 
-pub or_true : (x : Bool) → x || true ≡ true
-or_true true = refl
-or_true false = refl
-
-or_three : (x y z : Bool) → (x || y) || z ≡ x || (y || z)
-or_three true y z = refl
-or_three false y z = refl
-
-less : (m n : ℕ) → m < n → nat_lt m n ≡ true
-less m n h = grind (arith, nat_tests)
-
 less_or_four : (n : ℕ) → n ≤ 4 → nat_lt n 4 ≡ false → n ≡ 4
 less_or_four n h e = grind (arith, nat_tests)
 
@@ -62,16 +52,13 @@ cap_next n k h = by (nat_lt n 4) refl
     by true f = let e : (n + 1) + k ≡ n + suc k = omega arith in ap (λ b. capped 4 (cond b (n + 1) n + k)) f ∙ ap (capped 4) e
     by false f =
         let q = less_or_four n h f in
-        ap (λ b. capped 4 (cond b (n + 1) n + k)) f ∙ ap (λ b. cond b (n + k) 4) (not_less (n + k) 4 (omega arith)) ∙ sym (ap (λ b. cond b (n + suc k) 4) (not_less (n + suc k) 4 (omega arith)))
+        ap (λ b. capped 4 (cond b (n + 1) n + k)) f ∙ ap (λ b. cond b (n + k) 4) (le-ltb (n + k) 4 (omega arith)) ∙ sym (ap (λ b. cond b (n + suc k) 4) (le-ltb (n + suc k) 4 (omega arith)))
 
 next_few : (n : ℕ) → n ≤ 4 → next_count n ≤ 4
 next_few n h = by (nat_lt n 4) refl
   where
     by : (b : Bool) → nat_lt n 4 ≡ b → cond b (n + 1) n ≤ 4
-    by true f = four n f
-      where
-        four : (n : ℕ) → nat_lt n 4 ≡ true → n + 1 ≤ 4
-        four n e = grind (arith, nat_tests)
+    by true f = let l = ltb-true n 4 f in omega arith
     by false f = h
 
 module _ (all : List (List ℕ × Register)) where
@@ -82,7 +69,7 @@ module _ (all : List (List ℕ × Register)) where
   noted_unknown f a = by (find_a a)
     where
       by : Finding (register all a.name) true (index_of a.index) → (noted f (find all true a)).unknown ≡ f.unknown || is_unknown all true a
-      by (unknown u e) = ap (λ r. (noted f r).unknown) e ∙ sym (ap (λ b. f.unknown || b) u ∙ or_true f.unknown)
+      by (unknown u e) = ap (λ r. (noted f r).unknown) e ∙ sym (ap (λ b. f.unknown || b) u ∙ or_right f.unknown true refl)
       by (beyond u b e) = ap (λ r. (noted f r).unknown) e ∙ sym (ap (λ b. f.unknown || b) u ∙ or-false f.unknown)
       by (found t u b w e) = ap (λ r. (noted f r).unknown) e ∙ sym (ap (λ b. f.unknown || b) u ∙ or-false f.unknown)
 
@@ -90,22 +77,22 @@ module _ (all : List (List ℕ × Register)) where
   look_unknown f [] = sym (or-false f.unknown)
   look_unknown f (a ∷ more) =
       look_unknown (noted f (find all true a)) more ∙ ap (λ b. b || list_any (is_unknown all true) more) (noted_unknown f a)
-      ∙ or_three f.unknown (is_unknown all true a) (list_any (is_unknown all true) more)
+      ∙ or_assoc f.unknown (is_unknown all true a) (list_any (is_unknown all true) more)
 
   noted_beyond : (f : Found) (a : Argument) → is_unknown all true a ≡ false → (noted f (find all true a)).beyond ≡ f.beyond || is_beyond all a
   noted_beyond f a n = by (find_a a)
     where
       by : Finding (register all a.name) true (index_of a.index) → (noted f (find all true a)).beyond ≡ f.beyond || is_beyond all a
       by (unknown u e) = absurd (let q : true ≡ false = sym u ∙ n in cc)
-      by (beyond u b e) = ap (λ r. (noted f r).beyond) e ∙ sym (ap (λ x. f.beyond || x) b ∙ or_true f.beyond)
+      by (beyond u b e) = ap (λ r. (noted f r).beyond) e ∙ sym (ap (λ x. f.beyond || x) b ∙ or_right f.beyond true refl)
       by (found t u b w e) = ap (λ r. (noted f r).beyond) e ∙ sym (ap (λ x. f.beyond || x) b ∙ or-false f.beyond)
 
   pub look_beyond : (f : Found) (arguments : List Argument) → list_any (is_unknown all true) arguments ≡ false → (look all f arguments).beyond ≡ f.beyond || list_any (is_beyond all) arguments
   look_beyond f [] n = sym (or-false f.beyond)
   look_beyond f (a ∷ more) n =
-      let p = neither (is_unknown all true a) (list_any (is_unknown all true) more) n in
+      let p = or_parts (is_unknown all true a) (list_any (is_unknown all true) more) n in
       look_beyond (noted f (find all true a)) more p.1 ∙ ap (λ b. b || list_any (is_beyond all) more) (noted_beyond f a p.0)
-      ∙ or_three f.beyond (is_beyond all a) (list_any (is_beyond all) more)
+      ∙ or_assoc f.beyond (is_beyond all a) (list_any (is_beyond all) more)
 
   noted_count : (f : Found) (a : Argument) → (noted f (find all true a)).count ≡ next_count f.count
   noted_count f a = by (find_a a)
@@ -133,7 +120,7 @@ module _ (all : List (List ℕ × Register)) where
   pub targets_known : (arguments : List Argument) → list_any (is_unknown all true) arguments ≡ false → (ts : List Target) × (targets all arguments ≡ Some ts)
   targets_known [] u = ([], refl)
   targets_known (a ∷ more) u =
-      let p = neither (is_unknown all true a) (list_any (is_unknown all true) more) u in
+      let p = or_parts (is_unknown all true a) (list_any (is_unknown all true) more) u in
       let t = target_known a p.0 in
       let ts = targets_known more p.1 in
       (t.0 ∷ ts.0, ap (λ x. with_first x (targets all more)) t.1 ∙ ap (with_first (Some t.0)) ts.1)
@@ -144,10 +131,10 @@ module _ (all : List (List ℕ × Register)) where
   look_targets f (a ∷ more) u b h = by (find_a a) (λ t. look_targets (noted f (Ok t)) more)
     where
       p : (is_unknown all true a ≡ false) × (list_any (is_unknown all true) more ≡ false)
-      p = neither (is_unknown all true a) (list_any (is_unknown all true) more) u
+      p = or_parts (is_unknown all true a) (list_any (is_unknown all true) more) u
 
       q : (is_beyond all a ≡ false) × (list_any (is_beyond all) more ≡ false)
-      q = neither (is_beyond all a) (list_any (is_beyond all) more) b
+      q = or_parts (is_beyond all a) (list_any (is_beyond all) more) b
 
       by : Finding (register all a.name) true (index_of a.index)
           → ((t : Target) → list_any (is_unknown all true) more ≡ false → list_any (is_beyond all) more ≡ false → length (noted f (Ok t)).targets + length more ≤ 3
@@ -156,7 +143,7 @@ module _ (all : List (List ℕ × Register)) where
       by (unknown x e) go = absurd (let z : true ≡ false = sym x ∙ p.0 in cc)
       by (beyond x y e) go = absurd (let z : true ≡ false = sym y ∙ q.0 in cc)
       by (found t x y w e) go =
-          let new : (noted f (Ok t)).targets ≡ f.targets ++ t ∷ [] = ap (λ b. cond b (f.targets ++ t ∷ []) f.targets) (less (length f.targets) 3 (omega arith)) in
+          let new : (noted f (Ok t)).targets ≡ f.targets ++ t ∷ [] = ap (λ b. cond b (f.targets ++ t ∷ []) f.targets) (lt-ltb (length f.targets) 3 (omega arith)) in
           let long : length (noted f (Ok t)).targets ≡ length f.targets + 1 = ap length new ∙ length-append f.targets (t ∷ []) in
           let r = go t p.1 q.1 (omega arith) in (
             t ∷ r.0,
@@ -170,15 +157,11 @@ module _ (all : List (List ℕ × Register)) where
   all_targets arguments u b h = let l : 0 + length arguments ≤ 3 = omega arith in let r = look_targets nothing_found arguments u b l in r.1 ∙ ap Some (sym r.2)
 
 -- as many targets as arguments
-some_same : {X : Type 0} (x y : X) → Some x ≡ Some y → x ≡ y
-some_same x y e = cc
-
 pub with_first_some : (x : Option Target) (xs : Option (List Target)) (ts : List Target) → with_first x xs ≡ Some ts → (t : Target) × (us : List Target) × (x ≡ Some t) × (xs ≡ Some us) × (t ∷ us ≡ ts)
-with_first_some None xs ts e = absurd cc
-with_first_some (Some t) None ts e = absurd cc
-with_first_some (Some t) (Some us) ts e = (t, us, refl, refl, some_same (t ∷ us) ts e)
+with_first_some (Some t) (Some us) ts e = (t, us, refl, refl, same_Some (t ∷ us) ts e)
+with_first_some _ _ ts e = absurd cc
 
 pub length_targets : (all : List (List ℕ × Register)) (arguments : List Argument) (ts : List Target) → targets all arguments ≡ Some ts → length ts ≡ length arguments
-length_targets all [] ts e = sym (ap length (some_same [] ts e))
+length_targets all [] ts e = sym (ap length (same_Some [] ts e))
 length_targets all (a ∷ more) ts e =
     let p = with_first_some (target all a) (targets all more) ts e in sym (ap length p.4) ∙ ap suc (length_targets all more p.1 p.3)

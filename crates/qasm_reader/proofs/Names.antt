@@ -1,5 +1,5 @@
 -- Registers by name, in the map and in the list.
-use Rattle.std.proofs.Common.{◌≡◌, ◌∙◌, ap, refl, ℕ, Bool, true, false, cond, not, List, [], ◌∷◌, ◌++◌, map, is_some, Option, Some, None}
+use Rattle.std.proofs.Common.{◌≡◌, ◌∙◌, ap, refl, ℕ, Bool, true, false, cond, not, List, [], ◌∷◌, map, is_some, Option, Some, None}
 use Rattle.std.specs.Str.{bytes_eq}
 use Rattle.std.specs.Borrow.{Bor}
 use Rattle.std.specs.Map.{lookup}
@@ -15,10 +15,6 @@ lookup_named name [] = refl
 lookup_named name (e ∷ es) =
     row_cond (bytes_eq name e.0.now) e.1 (lookup (λ (k : Bor (List ℕ)). bytes_eq name k.now) es)
     ∙ ap (λ r. cond (bytes_eq name e.0.now) (Some (seen_register e.1)) r) (lookup_named name es)
-
-pub named_append : (es : List (Bor (List ℕ) × Row)) (e : Bor (List ℕ) × Row) → map entry_of (es ++ e ∷ []) ≡ map entry_of es ++ entry_of e ∷ []
-named_append [] e = refl
-named_append (d ∷ es) e = ap (λ r. entry_of d ∷ r) (named_append es e)
 
 -- whether there is a row
 pub row_there : (x : Option Row) → is_some (seen_row x) ≡ is_some x

@@ -1,23 +1,22 @@
 -- A text reads in one way.
 use Rattle.std.proofs.Common.{◌≡◌, ◌∙◌, sym, ap, refl, subst, ℕ, ◌+◌, List, [], ◌∷◌, ◌++◌, length, Option, Some, Result, Ok, Err, IfOk, IfErr, arith, append_assoc, append-nil}
+use Rattle.std.proofs.lemmas.Option.{same_Some}
 use Rattle.qasm_lex.proofs.Cuts.{tokens_same}
 use Rattle.qasm_lex.specs.Lexemes.{Lexeme, lexemes_of}
 use Rattle.qasm_reader.specs.declared.reason.Why.{Why}
 use Rattle.qasm_reader.specs.declared.reason.ReadStop.{ReadStop}
 use Rattle.qasm_reader.specs.declared.reason.ReadStop.TheVariants.{Refused as Stopped, OutOfMemory}
 use Rattle.gate_set.specs.Circuits.{Circuit}
-use Rattle.qasm_forms.specs.Statements.{Statement, version, include, qubits, bits, barrier, measure, call, left_out, Argument}
+use Rattle.qasm_forms.specs.Statements.{Statement, measure, call, Argument}
 use Rattle.qasm_reader.specs.Acts.{Act, Item, Target, measures, applies, circuit_of}
 use Rattle.qasm_reader.specs.Calls.{gate_named, Calls, Does}
 use Rattle.qasm_reader.specs.Parts.{Part, parts_of}
 use Rattle.qasm_reader.specs.Reasons.{Holds, Refuses, IsFree}
 use Rattle.qasm_reader.specs.Reading.{Accepts, AllAccepted, Reading, circuit, refusal, IsRefused, Reads, ReadsAs, IfRefused, Says}
 use Rattle.qasm_reader.specs.Private.Tests.{Taken}
+use Rattle.qasm_reader.proofs.Facts.{same_first, same_rest}
 use Rattle.qasm_reader.proofs.Good.{has_one, one_refusal}
 use Rattle.qasm_reader.proofs.Yielding.{yields_one}
-
-some_same : {X : Type 0} (x y : X) → Some x ≡ Some y → x ≡ y
-some_same x y e = cc
 
 items_same : (x y : List Item) → ◌≡◌ {A = Taken} (Ok (Some x)) (Ok (Some y)) → x ≡ y
 items_same x y e = cc
@@ -26,22 +25,17 @@ items_same x y e = cc
 calls_one : (before : List Act) (name : List ℕ) (angles : List (List Lexeme)) (all : List Argument) (a b : Act) → Calls before name angles all a → Calls before name angles all b → a ≡ b
 calls_one before name angles all a b p q =
     let items = items_same p.items q.items (yields_one (gate_named before name) angles (Ok (Some p.items)) (Ok (Some q.items)) (p.called, p.values, p.named, p.valued, p.gives) (q.called, q.values, q.named, q.valued, q.gives)) in
-    let on : p.on ≡ q.on = some_same p.on q.on (sym p.means ∙ q.means) in
+    let on : p.on ≡ q.on = same_Some p.on q.on (sym p.means ∙ q.means) in
     p.does ∙ ap (λ x. applies x p.on) items ∙ ap (applies q.items) on ∙ sym q.does
 
 measures_one : (x : Option Target) (a b : Act) → (t : Target) × (x ≡ Some t) × (a ≡ measures t) → (t : Target) × (x ≡ Some t) × (b ≡ measures t) → a ≡ b
-measures_one x a b p q = p.2 ∙ ap measures (some_same p.0 q.0 (sym p.1 ∙ q.1)) ∙ sym q.2
+measures_one x a b p q = p.2 ∙ ap measures (same_Some p.0 q.0 (sym p.1 ∙ q.1)) ∙ sym q.2
 
 -- a statement does one thing
 pub does_one : (before : List Act) (s : Statement) (a b : Act) → Does before s a → Does before s b → a ≡ b
-does_one before version a b p q = p ∙ sym q
-does_one before (include text) a b p q = p ∙ sym q
-does_one before (qubits name size) a b p q = p ∙ sym q
-does_one before (bits name size) a b p q = p ∙ sym q
-does_one before (barrier all) a b p q = p ∙ sym q
 does_one before (measure from to) a b p q = measures_one _ a b p q
 does_one before (call name angles all) a b p q = calls_one before name _ all a b p q
-does_one before (left_out name more) a b p q = p ∙ sym q
+does_one before _ a b p q = p ∙ sym q
 
 -- an accepted part does one thing
 pub accepts_one : (limit : ℕ) (before : List Act) (part : Part) (a b : Act) → Accepts limit before part a → Accepts limit before part b → a ≡ b
@@ -51,24 +45,17 @@ accepts_one limit before part a b p q =
 -- parts that are all accepted do the same
 pub all_accepted_one : (limit : ℕ) (before : List Act) (parts : List Part) (xs ys : List Act) → AllAccepted limit before parts xs → AllAccepted limit before parts ys → xs ≡ ys
 all_accepted_one limit before [] [] [] p q = refl
-all_accepted_one limit before [] [] (y ∷ ys) p q = absurd q
-all_accepted_one limit before [] (x ∷ xs) ys p q = absurd p
-all_accepted_one limit before (part ∷ parts) [] ys p q = absurd p
-all_accepted_one limit before (part ∷ parts) (x ∷ xs) [] p q = absurd q
 all_accepted_one limit before (part ∷ parts) (x ∷ xs) (y ∷ ys) p q =
     let e : x ≡ y = accepts_one limit before part x y p.0 q.0 in
     let rest = all_accepted_one limit (before ++ x ∷ []) parts xs ys p.1 (subst (λ a. AllAccepted limit (before ++ a ∷ []) parts ys) (sym e) q.1) in
     ap (λ a. a ∷ xs) e ∙ ap (λ r. y ∷ r) rest
+all_accepted_one limit before [] [] _ p q = absurd q
+all_accepted_one limit before (part ∷ parts) (x ∷ xs) _ p q = absurd q
+all_accepted_one limit before _ _ _ p q = absurd p
 
 -- no part is both accepted and refused
 free_not_refused : (limit : ℕ) (before : List Act) (part : Part) (why : Why) → IsFree limit before part → Refuses limit (before ++ []) part why → ⊥
 free_not_refused limit before part why free r = free why (subst (λ b. Holds limit b part why) (append-nil before) r.holds)
-
-first_same : (p q : Part) (ps qs : List Part) → p ∷ ps ≡ q ∷ qs → p ≡ q
-first_same p q ps qs e = cc
-
-rest_same : (p q : Part) (ps qs : List Part) → p ∷ ps ≡ q ∷ qs → ps ≡ qs
-rest_same p q ps qs e = cc
 
 -- a refusal after one more statement
 further : (limit : ℕ) (before : List Act) (x : Act) (xs : List Act) (part : Part) (why : Why) → Refuses limit (before ++ (x ∷ xs)) part why → Refuses limit ((before ++ x ∷ []) ++ xs) part why
@@ -77,38 +64,35 @@ further limit before x xs part why r = subst (λ b. Refuses limit b part why) (s
 -- parts that are all accepted have none that is refused
 accepted_not_refused : (limit : ℕ) (before : List Act) (good more : List Part) (bad : Part) (acts xs : List Act) (why : Why) → AllAccepted limit before (good ++ (bad ∷ more)) acts
     → AllAccepted limit before good xs → Refuses limit (before ++ xs) bad why → ⊥
-accepted_not_refused limit before [] more bad [] xs why p q r = p
-accepted_not_refused limit before [] more bad (a ∷ acts) (x ∷ xs) why p q r = q
 accepted_not_refused limit before [] more bad (a ∷ acts) [] why p q r = free_not_refused limit before bad why ((p.0).free) r
-accepted_not_refused limit before (part ∷ good) more bad [] xs why p q r = p
-accepted_not_refused limit before (part ∷ good) more bad (a ∷ acts) [] why p q r = q
 accepted_not_refused limit before (part ∷ good) more bad (a ∷ acts) (x ∷ xs) why p q r =
     let e : a ≡ x = accepts_one limit before part a x p.0 q.0 in
     accepted_not_refused limit (before ++ x ∷ []) good more bad acts xs why (subst (λ y. AllAccepted limit (before ++ y ∷ []) (good ++ (bad ∷ more)) acts) e p.1) q.1
     (further limit before x xs bad why r)
+accepted_not_refused limit before [] more bad [] xs why p q r = p
+accepted_not_refused limit before [] more bad (a ∷ acts) (x ∷ xs) why p q r = q
+accepted_not_refused limit before (part ∷ good) more bad [] xs why p q r = p
+accepted_not_refused limit before (part ∷ good) more bad (a ∷ acts) [] why p q r = q
 
 -- the first part that is refused is one, and so is its reason
 refused_one : (limit : ℕ) (before : List Act) (good other : List Part) (bad worse : Part) (more rest : List Part) (xs ys : List Act) (v w : Why) → good ++ (bad ∷ more) ≡ other ++ (worse ∷ rest)
     → AllAccepted limit before good xs → AllAccepted limit before other ys → Refuses limit (before ++ xs) bad v → Refuses limit (before ++ ys) worse w → (length good ≡ length other) × (v ≡ w)
-refused_one limit before [] other bad worse more rest (x ∷ xs) ys v w e p q r s = absurd p
-refused_one limit before [] [] bad worse more rest [] (y ∷ ys) v w e p q r s = absurd q
 refused_one limit before [] [] bad worse more rest [] [] v w e p q r s =
-    (refl, one_refusal limit (before ++ []) bad v w r (subst (λ part. Refuses limit (before ++ []) part w) (sym (first_same bad worse more rest e)) s))
-refused_one limit before [] (o ∷ other) bad worse more rest [] [] v w e p q r s = absurd q
+    (refl, one_refusal limit (before ++ []) bad v w r (subst (λ part. Refuses limit (before ++ []) part w) (sym (same_first e)) s))
 refused_one limit before [] (o ∷ other) bad worse more rest [] (y ∷ ys) v w e p q r s =
-    absurd (free_not_refused limit before o v ((q.0).free) (subst (λ part. Refuses limit (before ++ []) part v) (first_same bad o more (other ++ (worse ∷ rest)) e) r))
-refused_one limit before (g ∷ good) other bad worse more rest [] ys v w e p q r s = absurd p
-refused_one limit before (g ∷ good) [] bad worse more rest (x ∷ xs) (y ∷ ys) v w e p q r s = absurd q
+    absurd (free_not_refused limit before o v ((q.0).free) (subst (λ part. Refuses limit (before ++ []) part v) (same_first e) r))
 refused_one limit before (g ∷ good) [] bad worse more rest (x ∷ xs) [] v w e p q r s =
-    absurd (free_not_refused limit before g w ((p.0).free) (subst (λ part. Refuses limit (before ++ []) part w) (sym (first_same g worse (good ++ (bad ∷ more)) rest e)) s))
-refused_one limit before (g ∷ good) (o ∷ other) bad worse more rest (x ∷ xs) [] v w e p q r s = absurd q
+    absurd (free_not_refused limit before g w ((p.0).free) (subst (λ part. Refuses limit (before ++ []) part w) (sym (same_first e)) s))
 refused_one limit before (g ∷ good) (o ∷ other) bad worse more rest (x ∷ xs) (y ∷ ys) v w e p q r s =
-    let part : g ≡ o = first_same g o (good ++ (bad ∷ more)) (other ++ (worse ∷ rest)) e in
+    let part : g ≡ o = same_first e in
     let act : y ≡ x = accepts_one limit before g y x (subst (λ k. Accepts limit before k y) (sym part) q.0) p.0 in
-    let one = refused_one limit (before ++ x ∷ []) good other bad worse more rest xs ys v w (rest_same g o (good ++ (bad ∷ more)) (other ++ (worse ∷ rest)) e) p.1
+    let one = refused_one limit (before ++ x ∷ []) good other bad worse more rest xs ys v w (same_rest e) p.1
     (subst (λ a. AllAccepted limit (before ++ a ∷ []) other ys) act q.1) (further limit before x xs bad v r)
     (subst (λ a. Refuses limit ((before ++ a ∷ []) ++ ys) worse w) act (further limit before y ys worse w s)) in
     (let l = one.0 in omega arith, one.1)
+refused_one limit before [] other bad worse more rest (x ∷ xs) ys v w e p q r s = absurd p
+refused_one limit before (g ∷ good) other bad worse more rest [] ys v w e p q r s = absurd p
+refused_one limit before _ _ bad worse more rest _ _ v w e p q r s = absurd q
 
 -- statements read in one way
 reading_refused : (limit : ℕ) (parts : List Part) (n m : ℕ) (v w : Why) → IsRefused limit parts n v → IsRefused limit parts m w → refusal n v ≡ refusal m w

@@ -2,7 +2,6 @@
 use Rattle.std.proofs.Common.{◌≡◌, ◌≢◌, ◌∙◌, sym, ap, refl, subst, ℕ, suc, ◌+◌, Bool, true, false, cond, nat_eq, List, [], ◌∷◌, ◌++◌, length, append_assoc, Option, Some, None, Result, Ok, Err, IfErr, arith}
 use Rattle.std.proofs.lemmas.Bool.Decides.{nat_tests}
 use Rattle.std.proofs.lemmas.List.{length-append}
-use Rattle.std.proofs.lemmas.List.Elements.{All-nil}
 use Rattle.qasm_reader.specs.declared.reason.Why.{Why}
 use Rattle.qasm_reader.specs.declared.reason.Why.TheVariants.{BadByte, NoVersion}
 use Rattle.qasm_reader.specs.declared.reason.Refusal.{Refusal}
@@ -18,34 +17,25 @@ use Rattle.qasm_reader.specs.Reasons.{Refuses}
 use Rattle.qasm_reader.specs.Reading.{Accepts, AllAccepted, circuit, refusal, IsRefused, Reads, IfRefused}
 use Rattle.qasm_reader.proofs.PartCuts.{parts_cut, ended_stops}
 use Rattle.qasm_reader.specs.Private.Drafts.{Draft, Follows, Concludes, Reached, circuit_in, ended_part, draft_of, is_first, no_form}
-use Rattle.qasm_reader.proofs.Good.{bad_refuses, version_refuses, form_refuses}
+use Rattle.qasm_reader.proofs.Good.{no_acts, some_acts, bad_refuses, version_refuses, form_refuses}
+use Rattle.qasm_reader.proofs.Growing.{follows_none}
 use Rattle.std.proofs.lemmas.List.{append-nil}
 
 accepted_more : (limit : ℕ) (before : List Act) (good : List Part) (acts : List Act) (p : Part) (a : Act)
     → AllAccepted limit before good acts → Accepts limit (before ++ acts) p a → AllAccepted limit before (good ++ p ∷ []) (acts ++ a ∷ [])
 accepted_more limit before [] [] p a all one = (subst (λ b. Accepts limit b p a) (append-nil before) one, tt)
-accepted_more limit before [] (b ∷ acts) p a all one = absurd all
-accepted_more limit before (q ∷ good) [] p a all one = absurd all
 accepted_more limit before (q ∷ good) (b ∷ acts) p a all one =
     (all.0, accepted_more limit (before ++ b ∷ []) good acts p a all.1 (subst (λ c. Accepts limit c p a) (sym (append_assoc before (b ∷ []) acts)) one))
+accepted_more limit before _ _ p a all one = absurd all
 
 same_length : (limit : ℕ) (before : List Act) (good : List Part) (acts : List Act) → AllAccepted limit before good acts → length acts ≡ length good
 same_length limit before [] [] all = refl
-same_length limit before [] (b ∷ acts) all = absurd all
-same_length limit before (q ∷ good) [] all = absurd all
 same_length limit before (q ∷ good) (b ∷ acts) all = ap suc (same_length limit (before ++ b ∷ []) good acts all.1)
+same_length limit before _ _ all = absurd all
 
 first_is : (number : ℕ) (acts : List Act) → number ≡ length acts + 1 → nat_eq number 1 ≡ is_first acts
 first_is number [] e = ap (λ n. nat_eq n 1) e
 first_is number (a ∷ acts) e = let q : number ≡ suc (length acts) + 1 = e in grind (arith, nat_tests)
-
-not_nothing : (acts : List Act) → is_first acts ≡ false → acts ≢ []
-not_nothing [] e h = cc
-not_nothing (a ∷ acts) e h = cc
-
-is_empty : (acts : List Act) → is_first acts ≡ true → acts ≡ []
-is_empty [] e = refl
-is_empty (a ∷ acts) e = absurd cc
 
 module _ (limit : ℕ) (all : List Part) (d : Draft) (number : ℕ) where
   pub number_first : (rest : List Part) (r : Reached limit all rest d number) → nat_eq number 1 ≡ is_first r.acts
@@ -147,8 +137,8 @@ no_end : (ls : List Lexeme) → has_stop Semicolon ls ≡ false → (s : Stateme
 no_end ls o s e = let q : false ≡ true = sym o ∙ ap (has_stop Semicolon) e ∙ ended_stops (word (first_word s) ∷ written_rest s) in cc
 
 open_refuses : (limit : ℕ) (acts : List Act) (ls : List Lexeme) (first : Bool) → has_stop Semicolon ls ≡ false → first ≡ is_first acts → Refuses limit acts (record { lexemes = ls; bad = None }) (no_form first)
-open_refuses limit acts ls true o e = version_refuses limit acts _ refl (is_empty acts (sym e)) (λ h. no_end ls o version h.spelled)
-open_refuses limit acts ls false o e = form_refuses limit acts _ refl (not_nothing acts (sym e)) (λ s h. no_end ls o s h.spelled)
+open_refuses limit acts ls true o e = version_refuses limit acts _ refl (no_acts acts e) (λ h. no_end ls o version h.spelled)
+open_refuses limit acts ls false o e = form_refuses limit acts _ refl (some_acts acts e) (λ s h. no_end ls o s h.spelled)
 
 pub end_open : (limit : ℕ) (all : List Part) (d : Draft) (number : ℕ) (ls : List Lexeme) → has_stop Semicolon ls ≡ false → is_nothing ls ≡ false → Reached limit all (last_part ls None) d number
     → Reads limit all (refusal number (no_form (nat_eq number 1)))
@@ -208,19 +198,7 @@ pub some_bad : (ls : List Lexeme) (bad : Option ℕ) → bad ≢ None → parts_
 some_bad ls bad n e = n (some_parts ls bad e).1
 
 pub reached_start : (limit : ℕ) (all : List Part) → Reached limit all all (draft_of []) 1
-reached_start limit all = record {
-  good = [];
-  acts = [];
-  split = refl;
-  accepted = tt;
-  follows = record {
-    is = refl;
-    fits = record { few_qubits = omega arith; few_gates = omega arith; within = All-nil _; flags = refl; registers_end = tt };
-    few = omega arith;
-    marked = All-nil _;
-  };
-  count = refl;
-}
+reached_start limit all = record { good = []; acts = []; split = refl; accepted = tt; follows = follows_none limit; count = refl }
 
 -- what holds of a refusal holds where it follows
 pub if_refused : {A : Type 0} (r : Result A ReadStop) (P Q : Refusal → Type 0) → ((x : Refusal) → P x → Q x) → IfErr r (λ stop. IfRefused stop P) → IfErr r (λ stop. IfRefused stop Q)

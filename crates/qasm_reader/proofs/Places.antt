@@ -1,26 +1,16 @@
 -- Tests of the places below a number.
 use Rattle.std.proofs.Common.{◌≡◌, ◌∙◌, sym, ap, refl, ◌<◌, ◌⊎◌, inl, inr, ℕ, zero, suc, ◌+◌, Bool, true, false, ◌||◌, List, [], ◌∷◌, ◌++◌, arith}
 use Rattle.std.specs.List.{list_any}
-use Rattle.std.proofs.lemmas.Bool.{cases_eq}
+use Rattle.std.proofs.lemmas.Bool.{cases_eq, or_left, or_right, or_from}
 use Rattle.std.proofs.lemmas.List.Folds.{list_any-append}
 use Rattle.std.proofs.Math.Bool.{or-false}
 use Rattle.qasm_reader.specs.Acts.{up_to}
 
 any_append : (f : ℕ → Bool) (xs : List ℕ) (x : ℕ) → f x ≡ true → list_any f (xs ++ x ∷ []) ≡ true
-any_append f [] x e = ap (λ b. b || false) e
-any_append f (y ∷ ys) x e = ap (λ b. f y || b) (any_append f ys x e) ∙ by (f y)
-  where
-    by : (b : Bool) → b || true ≡ true
-    by true = refl
-    by false = refl
+any_append f xs x e = list_any-append f xs (x ∷ []) ∙ or_right (list_any f xs) _ (or_left (f x) false e)
 
 any_before : (f : ℕ → Bool) (xs : List ℕ) (x : ℕ) → list_any f xs ≡ true → list_any f (xs ++ x ∷ []) ≡ true
-any_before f [] x e = absurd cc
-any_before f (y ∷ ys) x e = by (f y) refl (any_before f ys x)
-  where
-    by : (b : Bool) → f y ≡ b → (list_any f ys ≡ true → list_any f (ys ++ x ∷ []) ≡ true) → f y || list_any f (ys ++ x ∷ []) ≡ true
-    by true h more = ap (λ b. b || list_any f (ys ++ x ∷ [])) h
-    by false h more = ap (λ b. b || list_any f (ys ++ x ∷ [])) h ∙ more (sym (ap (λ b. b || list_any f ys) h) ∙ e)
+any_before f xs x e = list_any-append f xs (x ∷ []) ∙ or_left (list_any f xs) _ e
 
 below_suc : (place n : ℕ) → place < suc n → (place ≡ n) ⊎ (place < n)
 below_suc place n h = elim (cases_eq place n) [ inl e ↦ inl e | inr ne ↦ inr (omega arith) ]
@@ -35,12 +25,7 @@ any_there f place (suc n) h e = by (below_suc place n h) (any_there f place n)
     by (inr q) more = any_before f (up_to n) n (more q e)
 
 none_append : (f : ℕ → Bool) (xs : List ℕ) (x : ℕ) → list_any f xs ≡ false → f x ≡ false → list_any f (xs ++ x ∷ []) ≡ false
-none_append f [] x e h = ap (λ b. b || false) h
-none_append f (y ∷ ys) x e h = by (f y) refl (none_append f ys x)
-  where
-    by : (b : Bool) → f y ≡ b → (list_any f ys ≡ false → f x ≡ false → list_any f (ys ++ x ∷ []) ≡ false) → f y || list_any f (ys ++ x ∷ []) ≡ false
-    by true g more = absurd (let q : true ≡ false = sym (ap (λ b. b || list_any f ys) g) ∙ e in cc)
-    by false g more = ap (λ b. b || list_any f (ys ++ x ∷ [])) g ∙ more (sym (ap (λ b. b || list_any f ys) g) ∙ e) h
+none_append f xs x e h = list_any-append f xs (x ∷ []) ∙ or_from (list_any f xs) _ e (or_from (f x) false h refl)
 
 -- one more that doesn't pass
 pub any_not : (f : ℕ → Bool) (place next : ℕ) → next ≡ place + 1 → list_any f (up_to place) ≡ false → f place ≡ false → list_any f (up_to next) ≡ false

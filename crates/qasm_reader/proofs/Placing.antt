@@ -3,7 +3,8 @@ use Rattle.std.proofs.Common.{◌≡◌, ◌∙◌, sym, ap, refl, subst, ◌≤
 use Rattle.std.specs.List.{list_any, AllByRecursion}
 use Rattle.std.specs.Str.{bytes_eq}
 use Rattle.std.specs.Map.{lookup}
-use Rattle.std.proofs.lemmas.Bool.{leb-false}
+use Rattle.std.proofs.lemmas.Bool.{leb-false, not-false, or_parts, false_from_ne_true}
+use Rattle.std.proofs.lemmas.Option.{none-some, same_Some}
 use Rattle.std.proofs.lemmas.List.{length-map}
 use Rattle.std.proofs.lemmas.List.Elements.{All-nil, All-cons, All-replicate}
 use Rattle.gate_set.specs.declared.kind.Kind.{Kind}
@@ -17,18 +18,10 @@ use Rattle.qasm_reader.specs.Calls.{Named, gate, turn, table, builtin, arity, on
 use Rattle.qasm_reader.specs.Reasons.{same_sort, is_unknown, reaches, is_beyond}
 use Rattle.qasm_reader.specs.Private.Scope.{differ, has_twice, repeats}
 use Rattle.qasm_reader.specs.Private.Drafts.{Draft, IsDraft, EndsWithin}
-use Rattle.qasm_reader.proofs.Facts.{neither}
 use Rattle.qasm_reader.proofs.Places.{any_there}
 use Rattle.qasm_reader.proofs.Applied.{placed_all}
 use Rattle.qasm_reader.proofs.Deciding.{different, same_places}
 use Rattle.qasm_reader.proofs.Looking.{with_first_some, length_targets}
-
-some_same : {X : Type 0} (x y : X) → Some x ≡ Some y → x ≡ y
-some_same x y e = cc
-
-not_false : (b : Bool) → not b ≡ false → b ≡ true
-not_false true e = refl
-not_false false e = absurd cc
 
 -- what holds of each value of a table holds of the one that is found
 found_holds : {K X : Type 0} (P : X → Type 0) (test : K → Bool) (es : List (K × X)) (x : X) → AllByRecursion (λ e. P e.1) es → lookup test es ≡ Some x → P x
@@ -36,7 +29,7 @@ found_holds P test [] x a e = absurd cc
 found_holds P test (k ∷ es) x a e = by (test k.0) e (found_holds P test es x a.1)
   where
     by : (b : Bool) → cond b (Some k.1) (lookup test es) ≡ Some x → (lookup test es ≡ Some x → P x) → P x
-    by true e more = subst P (some_same k.1 x e) a.0
+    by true e more = subst P (same_Some k.1 x e) a.0
     by false e more = more e
 
 -- a place of a whole register is below its size, and a single one is at any
@@ -60,10 +53,10 @@ module _ (n : ℕ) (all : List (List ℕ × Register)) (ends : AllByRecursion (E
   target_below a t place u b e h = by (register all a.name) refl
     where
       by : (x : Option Register) → register all a.name ≡ x → qubit_at place t < n
-      by None q = absurd (let z : None ≡ Some t = sym (ap (λ x. target_in x (index_of a.index)) q) ∙ e in cc)
+      by None q = absurd (none-some t (sym (ap (λ x. target_in x (index_of a.index)) q) ∙ e))
       by (Some r) q =
-          let same : place_in r (index_of a.index) ≡ t = some_same (place_in r (index_of a.index)) t (sym (ap (λ x. target_in x (index_of a.index)) q) ∙ e) in
-          let quantum : r.quantum ≡ true = not_false _ (sym (ap (λ x. not (same_sort true x)) q) ∙ u) in
+          let same : place_in r (index_of a.index) ≡ t = same_Some (place_in r (index_of a.index)) t (sym (ap (λ x. target_in x (index_of a.index)) q) ∙ e) in
+          let quantum : r.quantum ≡ true = not-false _ (sym (ap (λ x. not (same_sort true x)) q) ∙ u) in
           let end : r.first + r.size ≤ n = found_holds (λ (r : Register). r.quantum ≡ true → r.first + r.size ≤ n) (bytes_eq a.name) all r ends q quantum in
           subst (λ x. qubit_at place x < n) same
           (qubit_inside n r (index_of a.index) place end (sym (ap (λ x. reaches x (index_of a.index)) q) ∙ b) (subst (λ (x : Target). IsInside x.size place) (sym same) h))
@@ -80,10 +73,10 @@ module _ (n : ℕ) (all : List (List ℕ × Register)) (ends : AllByRecursion (E
     -- the qubits at a place of all arguments are the draft's
     all_below : (arguments : List Argument) (ts : List Target) → list_any (is_unknown all true) arguments ≡ false → list_any (is_beyond all) arguments ≡ false → targets all arguments ≡ Some ts
         → AllByRecursion (λ m. m ≡ places) (wholes ts) → All (λ q. q < n) (qubits_at ts place)
-    all_below [] ts u b e w = subst (λ x. All (λ q. q < n) (qubits_at x place)) (some_same [] ts e) (All-nil (λ q. q < n))
+    all_below [] ts u b e w = subst (λ x. All (λ q. q < n) (qubits_at x place)) (same_Some [] ts e) (All-nil (λ q. q < n))
     all_below (a ∷ more) ts u b e w =
-        let p = neither (is_unknown all true a) (list_any (is_unknown all true) more) u in
-        let q = neither (is_beyond all a) (list_any (is_beyond all) more) b in
+        let p = or_parts (is_unknown all true a) (list_any (is_unknown all true) more) u in
+        let q = or_parts (is_beyond all a) (list_any (is_beyond all) more) b in
         let f = with_first_some (target all a) (targets all more) ts e in
         let i = first_inside (f.0).size (wholes f.1) (subst (λ x. AllByRecursion (λ m. m ≡ places) (wholes x)) (sym f.4) w) in
         subst (λ x. All (λ q. q < n) (qubits_at x place)) f.4
@@ -91,11 +84,7 @@ module _ (n : ℕ) (all : List (List ℕ × Register)) (ends : AllByRecursion (E
 
 -- a test that holds nowhere doesn't hold at a place
 none_there : (f : ℕ → Bool) (place n : ℕ) → place < n → list_any f (up_to n) ≡ false → f place ≡ false
-none_there f place n h e = by (f place) refl
-  where
-    by : (b : Bool) → f place ≡ b → f place ≡ false
-    by true q = absurd (let t : true ≡ false = sym (any_there f place n h q) ∙ e in cc)
-    by false q = q
+none_there f place n h e = false_from_ne_true (f place) (λ q. let t : true ≡ false = sym (any_there f place n h q) ∙ e in cc)
 
 small : (n : ℕ) (qs : List ℕ) → n ≤ 64 → All (λ q. q < n) qs → All (λ q. q < 64) qs
 small n qs h a k d lt = let b = a k d lt in omega arith

@@ -19,16 +19,20 @@ use Rattle.qasm_reader.proofs.Growing.{qubit_count_more, gates_more, length_prod
 use Rattle.qasm_reader.proofs.Looking.{Finding, unknown, beyond, found, finding, targets_known}
 use Rattle.qasm_reader.proofs.Yielding.{quiet}
 use Rattle.std.proofs.Math.Bool.{or-false}
-use Rattle.qasm_reader.proofs.Facts.{not_less}
+use Rattle.std.proofs.lemmas.Bool.{le-ltb}
 
 -- why a statement is refused, if it is
 abbrev pub why_of : Result Draft Why → Option Why
 why_of (Ok d) = None
 why_of (Err why) = Some why
 
+-- where a test doesn't hold
+why_past : (b : Bool) (w : Why) (r : Result Draft Why) (o : Option Why) → (b ≡ false → why_of r ≡ o) → why_of (cond b (Err w) r) ≡ cond b (Some w) o
+why_past true w r o e = refl
+why_past false w r o e = e refl
+
 why_cond : (b : Bool) (w : Why) (r : Result Draft Why) (o : Option Why) → why_of r ≡ o → why_of (cond b (Err w) r) ≡ cond b (Some w) o
-why_cond true w r o e = refl
-why_cond false w r o e = e
+why_cond b w r o e = why_past b w r o (λ _. e)
 
 cond_is : (b c : Bool) (w : Why) (o p : Option Why) → b ≡ c → o ≡ p → cond b (Some w) o ≡ cond c (Some w) p
 cond_is b c w o p e f = ap (λ x. cond x (Some w) o) e ∙ ap (cond c (Some w)) f
@@ -40,20 +44,15 @@ any_same : {X : Type 0} (f g : X → Bool) → ((x : X) → f x ≡ g x) → (xs
 any_same f g e [] = refl
 any_same f g e (x ∷ xs) = ap (λ b. b || list_any f xs) (e x) ∙ ap (λ b. g x || b) (any_same f g e xs)
 
--- where a test doesn't hold
-why_past : (b : Bool) (w : Why) (r : Result Draft Why) (o : Option Why) → (b ≡ false → why_of r ≡ o) → why_of (cond b (Err w) r) ≡ cond b (Some w) o
-why_past true w r o e = refl
-why_past false w r o e = e refl
-
 module _ (limit : ℕ) (before : List Act) (few : qubit_count before ≤ limit) (few_gates : length (gates before) ≤ 1000000) (marked : All (λ q. q < qubit_count before) (measured before)) where
   -- no more qubits, and no more gates
   same_qubits : (act : Act) → qubits_in act ≡ 0 → nat_lt limit (qubit_count (before ++ act ∷ [])) ≡ false
-  same_qubits act e = let m = qubit_count_more before act in not_less limit _ (omega arith)
+  same_qubits act e = let m = qubit_count_more before act in le-ltb limit _ (omega arith)
 
   same_gates : (act : Act) → gates_in act ≡ [] → nat_lt 1000000 (length (gates (before ++ act ∷ []))) ≡ false
   same_gates act e =
       let m : length (gates (before ++ act ∷ [])) ≡ length (gates before) + 0 = ap length (gates_more before act) ∙ length-append (gates before) (gates_in act) ∙ ap (λ gs. length (gates before) + length gs) e in
-      not_less 1000000 _ (omega arith)
+      le-ltb 1000000 _ (omega arith)
 
   -- the tests of the limits, where there are no more qubits and gates
   at_last : (act : Act) → qubits_in act ≡ 0 → gates_in act ≡ []

@@ -14,7 +14,7 @@ mod reason;
 mod registers;
 mod targets;
 
-pub use laws::{every_text_reads, one_reading};
+pub use laws::{every_text_reads, one_reading, texts_read_as_circuits};
 pub use reader::read;
 pub use reason::{ReadStop, Refusal, Why};
 

@@ -1,5 +1,5 @@
 //! Texts with their circuits, and texts with their refusals.
-use crate::{ReadStop, Refusal, Why, every_text_reads, one_reading, read};
+use crate::{ReadStop, Refusal, Why, every_text_reads, one_reading, read, texts_read_as_circuits};
 use bit_lists::OutOfMemory;
 use gate_set::Kind;
 use qasm_lex::AngleRefusal;
@@ -171,6 +171,7 @@ static REFUSED: [(&[u8], u32, Why); 44] = [
 fn each_reason_in_its_place(rt: HostRuntime) {
     one_reading();
     every_text_reads();
+    texts_read_as_circuits();
     for &(text, statement, why) in &REFUSED {
         assert_eq!(rt;
             refusal(&rt, text, 64),

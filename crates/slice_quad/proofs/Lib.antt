@@ -12,11 +12,14 @@ pub mod GateCalls
 pub mod Gates
 pub mod Gathered
 pub mod Heres
+pub mod IdentityNodes
+pub mod IdentityParts
 pub mod MixLemmas
 pub mod Narrow
 pub mod Onwards
 pub mod RawValues
 pub mod Raws
+pub mod RowsColumns
 pub mod Settling
 pub mod Starting
 pub mod Starts

@@ -4,9 +4,12 @@ pub mod Crossings
 pub mod Exchange
 pub mod Fields
 pub mod Fours
+pub mod Identities
+pub mod IdentityBuilt
 pub mod Mix
 pub mod Nonzero
 pub mod Raws
+pub mod RowsColumns
 pub mod Settled
 pub mod Started
 pub mod Stepping

@@ -28,7 +28,7 @@ pub record StandsIn (d : Diagram) (ns : List ℕ) : Type 0 where
   pub few : length ns ≤ 131
   pub live : (i : ℕ) → i < length ns → IsLive d (slice_index_or ns i 0)
 
--- the first n bits
+-- the first n bits, from the highest of them down to the lowest
 unfoldable pub first_bits : ℕ → Digits → List Function
 first_bits zero s = []
 first_bits (suc n) s = s n ∷ first_bits n s

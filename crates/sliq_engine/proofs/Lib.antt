@@ -7,6 +7,7 @@ mod StepLemmas
 mod SlicedWalks
 mod SimLemmas
 mod EqLemmas
+mod EqTexts
 mod ProbLemmas
 mod CommandLemmas
 mod TakingLemmas

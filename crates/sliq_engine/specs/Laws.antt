@@ -1,6 +1,14 @@
 -- Words of the laws.
+use Rattle.std.specs.Prelude.{◌≡◌, Bool, List}
+use Rattle.ring_omega.specs.Lowest.{lowest_form}
+use Rattle.gate_set.specs.Circuits.{Circuit}
+use Rattle.circuit_model.specs.Product.{exponent}
+use Rattle.amp_printer.specs.declared.verdict.Verdict.TheVariants as verdicts
+use Rattle.amp_printer.specs.Verdicts.{verdict_text}
+use Rattle.comparison.specs.Scalars.{comparison, compared, corner, IsFirstDiffering}
 use Rattle.sliq_engine.specs.declared.cause.Cause.{Cause}
 use Rattle.sliq_engine.specs.declared.cause.Cause.TheVariants.{ReadFault, Nodes}
+use Rattle.sliq_engine.specs.Steps.{Output}
 
 -- the stops that come of words and texts; a fault of the shelf is none of them
 abbrev pub IsNoFault : Cause → Type 0
@@ -11,3 +19,12 @@ IsNoFault _ = Unit {0}
 abbrev pub IsSure : Cause → Type 0
 IsSure (Nodes step order held) = ⊥
 IsSure cause = IsNoFault cause
+
+-- the output tells the first position at which U·V† isn't its corner times the identity, the entry there and the corner in lowest terms
+pub record TellsFirst (u v : Circuit) (output : Output) : Type 0 where
+  pub row : List Bool
+  pub col : List Bool
+  pub first : IsFirstDiffering u.qubits (compared u.gates v.gates) row col
+  pub bytes : output.bytes ≡ verdict_text (verdicts.Differs row col
+      (lowest_form (compared u.gates v.gates row col) (exponent (comparison u.gates v.gates)))
+      (lowest_form (corner u.qubits (compared u.gates v.gates)) (exponent (comparison u.gates v.gates))))

@@ -1,15 +1,16 @@
 //! Laws of the top call's definitions. Each call does nothing: its contract is the law.
 ghost use Rattle.std.specs.Prelude.{◌≡◌, ◌↔◌, ◌≤◌, ◌∷◌, [], List, ℕ, codes, Ok, Err, Some, IsSome};
-ghost use Rattle.gate_set.specs.Circuits.{Circuit, IsCircuit};
+ghost use Rattle.gate_set.specs.Circuits.{Circuit};
 ghost use Rattle.comparison.specs.Scalars.{AreSame};
 ghost use Rattle.amp_dense.specs.Rules.{Settings};
 ghost use Rattle.qasm_reader.specs.declared.reason.Refusal.{Refusal};
+ghost use Rattle.qasm_reader.specs.Reading.{ReadsAs, circuit};
 ghost use Rattle.std.specs.List.{AllByRecursion};
 ghost use Rattle.outside.specs.Memory.{Shelved, text_of, memory};
 ghost use Rattle.phases.specs.Phases.{Agree, HasOneEnd, HasSomeEnd};
 ghost use Rattle.sliq_words.specs.Asked.{Request, asked_of};
 ghost use Rattle.sliq_engine.specs.Comes.{CarriesOut, Comes};
-ghost use Rattle.sliq_engine.specs.Laws.{IsNoFault, IsSure};
+ghost use Rattle.sliq_engine.specs.Laws.{IsNoFault, IsSure, TellsFirst};
 ghost use Rattle.sliq_engine.specs.Steps.{Output, zeros};
 ghost use Rattle.sliq_engine.specs.Sim.{sim_output};
 ghost use Rattle.sliq_engine.specs.Eq.{Says};
@@ -35,12 +36,15 @@ pub fn one_run()
         → Agree IsSure (Comes memory words old new) (Comes memory words old other) }
 {}
 
-/// What is said of two circuits on as many qubits ends a run as Done exactly where they are the same up to a scalar, and else as Differs.
+/// Where two texts read as circuits on as many qubits, a run of `eq` that wrote its output ends as Done exactly where the circuits are the
+/// same up to one unit scalar, and else as Differs, with the first position at which U·V† isn't its corner times the identity.
 pub fn eq_exactly()
-    ensures done { (u v : Circuit) (output : Output) → IsCircuit u → IsCircuit v → u.qubits ≡ v.qubits → Says u v (Ok output)
+    ensures done { (one two : List ℕ) (u v : Circuit) (output : Output) → ReadsAs one 64 (circuit u) → ReadsAs two 64 (circuit v) → u.qubits ≡ v.qubits → Says u v (Ok output)
         → (output.cause ≡ Cause.Done) ↔ AreSame u.qubits u.gates v.gates }
-    ensures differs { (u v : Circuit) (output : Output) → IsCircuit u → IsCircuit v → u.qubits ≡ v.qubits → Says u v (Ok output)
+    ensures differs { (one two : List ℕ) (u v : Circuit) (output : Output) → ReadsAs one 64 (circuit u) → ReadsAs two 64 (circuit v) → u.qubits ≡ v.qubits → Says u v (Ok output)
         → (output.cause ≡ Cause.Differs) ↔ (¬ AreSame u.qubits u.gates v.gates) }
+    ensures first { (one two : List ℕ) (u v : Circuit) (output : Output) → ReadsAs one 64 (circuit u) → ReadsAs two 64 (circuit v) → u.qubits ≡ v.qubits → Says u v (Ok output)
+        → (¬ AreSame u.qubits u.gates v.gates) → TellsFirst u v output }
 {
     let _ = Cause::Differs;
 }

@@ -5,10 +5,10 @@ use Rattle.gate_set.specs.declared.gate.Gate.{Gate}
 use Rattle.comparison.specs.Products.{Step, work_matrix, AllStepsFit}
 use Rattle.comparison.specs.Steps.{mixed, steps_of}
 use Rattle.circuit_model.proofs.PrefixLemmas.{AtEach-nil}
-use Rattle.dense_matrix.specs.Sides.{step_of, lefts, rights}
+use Rattle.comparison.specs.Sides.{step_of, lefts, rights}
 use Rattle.dense_matrix.specs.Kept.{IsMatrix}
-use Rattle.dense_matrix.proofs.TurnLemmas.{take-next}
-use Rattle.dense_matrix.proofs.Matrices.{next_kept, next_fits, stops_at, one_side, length-steps_of, length-taken}
+use Rattle.comparison.proofs.TurnLemmas.{take-next, one_side, length-steps_of, length-taken}
+use Rattle.dense_matrix.proofs.Matrices.{next_kept, next_fits, stops_at}
 use Rattle.dense_matrix.proofs.comparing.multiplied.Goals as goal
 
 pub steps-init : goal.steps-init

@@ -17,8 +17,8 @@ use Rattle.circuit_model.specs.Product.{sum_over}
 use Rattle.circuit_model.specs.Vector.{at}
 use Rattle.circuit_model.proofs.SumLemmas.{sum_over_more, length-with_bits}
 use Rattle.quad_lists.specs.Sums.{quad_value}
-use Rattle.dense_matrix.specs.declared.step.Side.{Side}
-use Rattle.dense_matrix.specs.declared.step.Side.TheVariants.{Left, Right}
+use Rattle.comparison.specs.declared.turns.Side.{Side}
+use Rattle.comparison.specs.declared.turns.Side.TheVariants.{Left, Right}
 use Rattle.dense_matrix.specs.Sides.{own, put, entry_on}
 use Rattle.dense_matrix.proofs.Terms.{part, step-parts}
 use Rattle.dense_matrix.proofs.step.entry_after.Goals as goal

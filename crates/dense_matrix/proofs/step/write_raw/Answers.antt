@@ -8,7 +8,7 @@ use Rattle.bit_lists.proofs.Places.{listed, length-all_lists, get_or-all_lists, 
 use Rattle.circuit_model.specs.Vector.{at}
 use Rattle.circuit_model.specs.Working.{QuadFits}
 use Rattle.comparison.specs.Products.{times_step, joined, by_position}
-use Rattle.dense_matrix.specs.Sides.{step_of}
+use Rattle.comparison.specs.Sides.{step_of}
 use Rattle.dense_matrix.proofs.step.write_raw.Goals as goal
 
 -- the row and the column of the list at a place

@@ -3,7 +3,7 @@ use Rattle.bit_lists.specs.Lists.{all_lists}
 use Rattle.circuit_model.specs.Vector.{at}
 use Rattle.circuit_model.specs.Working.{QuadFits}
 use Rattle.comparison.specs.Products.{times_step, joined, by_position}
-use Rattle.dense_matrix.specs.Sides.{step_of}
+use Rattle.comparison.specs.Sides.{step_of}
 use Rattle.dense_matrix.proofs.step.write_raw.Given as goal
 
 -- the entries so far, all of them within the width

@@ -7,7 +7,7 @@ use Rattle.qasm_reader.specs.Private.Tests.{Yields}
 use Rattle.qasm_reader.specs.Private.Drafts.{ended_part}
 use Rattle.qasm_reader.proofs.Following.{no_statement, out_of_place, carried_out, none_shown, some_shown, same_called, differs, agrees}
 use Rattle.qasm_reader.proofs.Yielding.{every_yield}
-use Rattle.qasm_reader.proofs.Facts.{if_ok}
+use Rattle.std.proofs.lemmas.Result.{IfOk-weaker}
 use Rattle.qasm_reader.proofs.reader.follow.Goals as goal
 
 pub returns-in_default : goal.returns-in_default
@@ -29,7 +29,7 @@ pub returns : goal.returns
 returns c =
     let s = shown c.in-Some.form in
     let same = agrees c.is_version.result c.args.first c.if-is_version-first.false in
-    if_ok c.carry_out.result _ _
+    IfOk-weaker c.carry_out.result _ _
     (λ why h before f e.
     (let r = some_shown c.read_statement.result c.in-Some.form (λ form. IsStatement (leaves before) (shown form) × (ended c.args.part.now ≡ written (shown form))) c.in-Some.is
     (c.read_statement.ensures.found (leaves before) c.begins_left-left.ensures) in

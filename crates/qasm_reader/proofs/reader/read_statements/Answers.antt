@@ -7,7 +7,7 @@ use Rattle.qasm_reader.specs.Parts.{last_part, parts_of}
 use Rattle.qasm_reader.specs.Reading.{Reads, IfRefused, refusal}
 use Rattle.qasm_reader.specs.Private.Drafts.{Reached, ended_part}
 use Rattle.qasm_forms.proofs.Listed.{after_shorter}
-use Rattle.qasm_reader.proofs.Facts.{if_ok}
+use Rattle.std.proofs.lemmas.Result.{IfOk-weaker}
 use Rattle.qasm_reader.proofs.Onward.{nothing_reads, some_lexemes, some_bad, reached_start, cut_open, no_stop_before, cut_closed, Next, if_refused, reached_next, reached_refused, refused_reads}
 use Rattle.qasm_reader.proofs.reader.read_statements.Goals.{else-is_empty-via-then-is_empty+else-is_none, else-is_empty-via-else-is_empty}
 use Rattle.qasm_reader.proofs.reader.read_statements.Goals as goal
@@ -43,7 +43,7 @@ returns-then-not-closed-clause-circuit c =
     let last : parts_of c.statements.lexemes c.args.bad ≡ last_part c.cut-part.result.0 c.args.bad =
     cut_open c.statements.lexemes c.args.bad open' ∙ ap (λ ls. last_part ls c.args.bad) (sym c.cut-part.ensures.front) in
     let r = subst (λ ps. Reached c.args.limit all ps c.statements.draft c.statements.number) last c.statements.invariant.reached in
-    if_ok c.read_end.result _ _ (λ x h. h c.args.limit all c.statements.invariant.some r) c.read_end.ensures.circuit
+    IfOk-weaker c.read_end.result _ _ (λ x h. h c.args.limit all c.statements.invariant.some r) c.read_end.ensures.circuit
 
 pub returns-then-not-closed-clause-refused : goal.returns-then-not-closed-clause-refused
 returns-then-not-closed-clause-refused c =

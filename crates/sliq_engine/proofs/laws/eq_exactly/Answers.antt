@@ -1,8 +1,11 @@
-use Rattle.sliq_engine.proofs.EqLemmas.{done_exactly, differs_exactly}
+use Rattle.sliq_engine.proofs.EqTexts.{texts_done, texts_differ, texts_tell}
 use Rattle.sliq_engine.proofs.laws.eq_exactly.Goals as goal
 
 pub returns-clause-done : goal.returns-clause-done
-returns-clause-done c = done_exactly
+returns-clause-done c = texts_done
 
 pub returns-clause-differs : goal.returns-clause-differs
-returns-clause-differs c = differs_exactly
+returns-clause-differs c = texts_differ
+
+pub returns-clause-first : goal.returns-clause-first
+returns-clause-first c = texts_tell

@@ -7,9 +7,10 @@ use Rattle.bit_lists.specs.Lists.{all_lists}
 use Rattle.gate_set.specs.Matrix.{half_power_of}
 use Rattle.circuit_model.specs.Working.{Scaled, FitsWidth, halved}
 use Rattle.comparison.specs.Products.{raw_matrix, step_matrix}
-use Rattle.dense_matrix.specs.Sides.{step_of}
+use Rattle.comparison.specs.Sides.{step_of}
 use Rattle.dense_matrix.specs.Kept.{Entries, IsMatrix}
-use Rattle.dense_matrix.proofs.Matrices.{raw-same, raw-list, fits-same, step_matrix-exponent, gate_of-step_of}
+use Rattle.comparison.proofs.TurnLemmas.{gate_of-step_of}
+use Rattle.dense_matrix.proofs.Matrices.{raw-same, raw-list, fits-same, step_matrix-exponent}
 use Rattle.dense_matrix.proofs.matrix.DenseMatrix.multiply.Goals as goal
 
 pub returns-then-not-write_raw-clause-fits : goal.returns-then-not-write_raw-clause-fits

@@ -3,7 +3,7 @@ use Rattle.qasm_reader.specs.Calls.{builtin, listed}
 use Rattle.qasm_reader.specs.Private.Seen.{seen_named, seen_name}
 use Rattle.qasm_reader.specs.Private.Tests.{Yields}
 use Rattle.qasm_reader.specs.Private.Drafts.{call_on}
-use Rattle.qasm_reader.proofs.Facts.{if_ok}
+use Rattle.std.proofs.lemmas.Result.{IfOk-weaker}
 use Rattle.qasm_reader.proofs.draft.Draft.call.Goals as goal
 
 pub call_gate-requires-clause-named : goal.call_gate-requires-clause-named
@@ -17,6 +17,6 @@ returns-in-None c t y =
 pub returns-in-Some : goal.returns-in-Some
 returns-in-Some c =
     let e : builtin c.args.name.now ≡ Some (seen_named c.in-Some.gate) = sym c.gate_named.ensures ∙ ap seen_name c.in-Some.is in
-    if_ok c.call_gate.result _ _
+    IfOk-weaker c.call_gate.result _ _
     (λ why h t y. h t (subst (λ g. Yields g (listed c.args.angles) t) e y) ∙ sym (ap (λ g. call_on c.args.self.now g (length (listed c.args.angles)) t c.args.arguments) e))
     c.call_gate.ensures

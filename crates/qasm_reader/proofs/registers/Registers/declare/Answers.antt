@@ -1,12 +1,13 @@
 use Rattle.std.proofs.Common.{◌≡◌, ◌∙◌, sym, ap, rules, refl, ℕ, nat_eq, not, is_some, List, [], ◌∷◌, ◌++◌, map, None}
 use Rattle.std.specs.Borrow.{Bor}
 use Rattle.std.specs.Map.{lookup}
+use Rattle.std.proofs.lemmas.List.{map-append}
 use lib.Pointwise.{pointwise}
 use Rattle.std.proofs.lemmas.Map.Text.{hash_map_str_same}
 use Rattle.indexmap.proofs.CallerLemmas.{insert_entry-new}
 use Rattle.qasm_reader.specs.Acts.{register}
 use Rattle.qasm_reader.specs.Private.Seen.{seen_register, seen_row, entry_of}
-use Rattle.qasm_reader.proofs.Names.{lookup_named, named_append, row_there, no_row}
+use Rattle.qasm_reader.proofs.Names.{lookup_named, row_there, no_row}
 use Rattle.qasm_reader.proofs.registers.Registers.declare.Goals as goal
 
 -- the row of the name before
@@ -26,4 +27,4 @@ returns-clause-declared c h =
     let none : lookup (λ (k : Bor (List ℕ)). pointwise nat_eq c.args.name.now k.now) c.self.inside.places.entries ≡ None =
     no_row _ (sym (e ∙ ap (λ x. not (is_some x)) c.in_ok-before.ensures.old) ∙ h) in
     ap (map entry_of) (c.in_ok-before.ensures.entries ∙ insert_entry-new (λ (a b : Bor (List ℕ)). pointwise nat_eq a.now b.now) c.self.inside.places c.args.name c.args.place none)
-    ∙ named_append c.self.inside.places.entries (c.args.name, c.args.place) ∙ ap (λ r. r ++ (c.args.name.now, seen_register c.args.place) ∷ []) c.self.view_is
+    ∙ map-append entry_of c.self.inside.places.entries ((c.args.name, c.args.place) ∷ []) ∙ ap (λ r. r ++ (c.args.name.now, seen_register c.args.place) ∷ []) c.self.view_is

@@ -1,0 +1,9 @@
+use Rattle.std.proofs.Common.{◌≡◌, ℕ, ◌<◌, length}
+use Rattle.diagram_model.specs.Functions.{bit}
+use Rattle.equivalence.proofs.positions.row_of.Given as goal
+
+abbrev pub invariant-loop-i : goal.invariant-loop-i
+invariant-loop-i l = record {
+  long : length l.row ≡ l.fn.qubits;
+  same : (j : ℕ) → j < l.i → bit l.row j ≡ bit l.fn.x j;
+}

@@ -1,0 +1,10 @@
+//! What a matrix over decision diagrams is: a scalar times the identity, or the first position at which it isn't.
+#![tactic(auto)]
+
+mod asking;
+mod first;
+mod positions;
+mod verdict;
+
+pub use amp_printer::Verdict;
+pub use verdict::scalar_of;

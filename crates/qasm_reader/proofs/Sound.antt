@@ -1,0 +1,73 @@
+-- What a text reads as keeps the limits of a circuit.
+use Rattle.std.proofs.Common.{◌≡◌, sym, refl, subst, ◌⊎◌, inl, inr, ◌≤◌, ℕ, List, [], ◌∷◌, ◌++◌, Option, Some, None, Result, Ok, Err, append_assoc, append-nil}
+use Rattle.gate_set.specs.Circuits.{Circuit, IsCircuit}
+use Rattle.qasm_lex.specs.Lexemes.{lexemes_of}
+use Rattle.qasm_forms.specs.Statements.{Statement, version}
+use Rattle.qasm_reader.specs.declared.reason.Why.{Why}
+use Rattle.qasm_reader.specs.declared.reason.Why.TheVariants.{BadByte, NoVersion}
+use Rattle.qasm_reader.specs.Acts.{Act}
+use Rattle.qasm_reader.specs.Parts.{Part, parts_of, Has}
+use Rattle.qasm_reader.specs.Reasons.{IsFree, angles_of, called_in}
+use Rattle.qasm_reader.specs.Reading.{Accepts, AllAccepted, Reads, ReadsAs, circuit}
+use Rattle.qasm_reader.specs.Private.Tests.{Taken, Yields}
+use Rattle.qasm_reader.specs.Private.Drafts.{Draft, Follows, draft_of, step}
+use Rattle.qasm_reader.proofs.Good.{has_one}
+use Rattle.qasm_reader.proofs.Deciding.{IsGood}
+use Rattle.qasm_reader.proofs.Yielding.{every_yield}
+use Rattle.qasm_reader.proofs.Growing.{follows_none}
+use Rattle.qasm_reader.proofs.Following.{concludes}
+use Rattle.qasm_reader.proofs.OneReading.{accepts_one}
+use Rattle.qasm_reader.proofs.EveryReading.{version_or_not}
+
+-- a statement that nothing refuses stands in its place
+free_good : (limit : ℕ) (before : List Act) (part : Part) (s : Statement) → IsFree limit before part → Has before part s → IsGood before part s
+free_good limit before part s free h = record { has = h; no_bad = no_bad part.bad refl; first = λ e. first e (version_or_not s) }
+  where
+    no_bad : (bad : Option ℕ) → part.bad ≡ bad → part.bad ≡ None
+    no_bad None e = e
+    no_bad (Some place) e = absurd (free (BadByte place) e)
+
+    first : before ≡ [] → (s ≡ version) ⊎ (s ≡ version → ⊥) → s ≡ version
+    first e (inl v) = v
+    first e (inr n) = absurd (free NoVersion (e, λ v. n (has_one before part s version h v)))
+
+module _ (limit : ℕ) (few : limit ≤ 64) where
+  -- accepted statements keep the limits, one after the other
+  follows_one : (before : List Act) (part : Part) (act : Act) → Accepts limit before part act → Follows limit before (draft_of before) → Follows limit (before ++ act ∷ []) (draft_of (before ++ act ∷ []))
+  follows_one before part act a f = by (step limit (draft_of before) a.statement t.0) refl
+    where
+      t : (t : Taken) × Yields (called_in before a.statement) (angles_of a.statement) t
+      t = every_yield (called_in before a.statement) (angles_of a.statement)
+
+      good : IsGood before part a.statement
+      good = free_good limit before part a.statement a.free a.has
+
+      by : (r : Result Draft Why) → step limit (draft_of before) a.statement t.0 ≡ r → Follows limit (before ++ act ∷ []) (draft_of (before ++ act ∷ []))
+      by (Ok d) h =
+          let x = concludes limit few before (draft_of before) f part a.statement t.0 good t.1 None d (sym h) in
+          subst (λ b. Follows limit (before ++ b ∷ []) (draft_of (before ++ b ∷ []))) (accepts_one limit before part x.0 act x.1 a) (subst (Follows limit (before ++ x.0 ∷ [])) (x.2).is x.2)
+      by (Err w) h = absurd (a.free w (concludes limit few before (draft_of before) f part a.statement t.0 good t.1 (Some w) (draft_of before) (sym h)).holds)
+
+  follows_all : (before : List Act) (parts : List Part) (acts : List Act) → AllAccepted limit before parts acts → Follows limit before (draft_of before) → Follows limit (before ++ acts) (draft_of (before ++ acts))
+  follows_all before [] [] all f = subst (λ b. Follows limit b (draft_of b)) (sym (append-nil before)) f
+  follows_all before [] (a ∷ acts) all f = absurd all
+  follows_all before (p ∷ parts) [] all f = absurd all
+  follows_all before (p ∷ parts) (a ∷ acts) all f =
+      subst (λ b. Follows limit b (draft_of b)) (append_assoc before (a ∷ []) acts) (follows_all (before ++ a ∷ []) parts acts all.1 (follows_one before p a all.0 f))
+
+  reads_sound : (parts : List Part) (c : Circuit) → Reads limit parts (circuit c) → IsCircuit c × (c.qubits ≤ limit)
+  reads_sound [] c r = absurd cc
+  reads_sound (p ∷ parts) c r =
+      let f = follows_all [] (p ∷ parts) r.0 r.1 (follows_none limit) in
+      let fits = f.fits in
+      subst (λ x. IsCircuit x × (x.qubits ≤ limit)) (sym r.2) (record { few_qubits = fits.few_qubits; few_gates = fits.few_gates; within = fits.within; flags = fits.flags }, f.few)
+
+  -- so does a text
+  pub text_sound : (text : List ℕ) (c : Circuit) → ReadsAs text limit (circuit c) → IsCircuit c × (c.qubits ≤ limit)
+  text_sound text c r = reads_sound (parts_of (lexemes_of text r.tokens) r.bad) c r.reads
+
+pub read_is_circuit : (text : List ℕ) (limit : ℕ) (c : Circuit) → limit ≤ 64 → ReadsAs text limit (circuit c) → IsCircuit c
+read_is_circuit text limit c few r = (text_sound limit few text c r).0
+
+pub read_has_few_qubits : (text : List ℕ) (limit : ℕ) (c : Circuit) → limit ≤ 64 → ReadsAs text limit (circuit c) → c.qubits ≤ limit
+read_has_few_qubits text limit c few r = (text_sound limit few text c r).1

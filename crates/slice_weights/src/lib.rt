@@ -1,0 +1,17 @@
+//! Exact weights of the states of a vector over decision diagrams, and the outcomes that a measurement of it may have.
+//!
+//! No basis state is listed: sums are taken once for each different list of nodes that is met on the way down.
+#![tactic(auto)]
+
+mod asking;
+mod integer;
+mod outcome;
+mod places;
+mod summing;
+#[cfg(test)]
+mod tests;
+mod tuple;
+mod weighing;
+
+pub use outcome::next_outcome;
+pub use weighing::weigh;
