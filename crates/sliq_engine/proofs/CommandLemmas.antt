@@ -4,7 +4,7 @@ use Rattle.phases.specs.Phases.{HasOneEnd, HasSomeEnd}
 use Rattle.amp_dense.specs.Rules.{Settings}
 use Rattle.sliq_words.specs.declared.reading.Task.{Task}
 use Rattle.sliq_words.specs.declared.reading.Task.TheVariants as task
-use Rattle.sliq_engine.specs.Commands.{CarriesOut}
+use Rattle.sliq_engine.specs.Comes.{CarriesOut}
 use Rattle.sliq_engine.specs.Laws.{IsNoFault, IsSure}
 use Rattle.sliq_engine.proofs.SimLemmas.{one_sims, some_sims}
 use Rattle.sliq_engine.proofs.EqLemmas.{one_compares, some_compares}

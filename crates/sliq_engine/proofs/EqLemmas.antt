@@ -1,5 +1,5 @@
 -- How `eq` ends, exit by exit, and that it has one end.
-use Rattle.std.proofs.Common.{◌≡◌, ◌⊎◌, inl, inr, ◌↔◌, ℕ, ◌<◌, ◌≤◌, List, Option, Result, Ok, Err, All, length, refl, sym, ◌∙◌, ap, subst, arith}
+use Rattle.std.proofs.Common.{◌≡◌, ◌⊎◌, inl, inr, ◌↔◌, ℕ, ◌<◌, List, Option, Result, Ok, Err, All, refl, sym, ◌∙◌, ap, subst}
 use Rattle.ring_omega.specs.declared.quad.Quad.{Quad}
 use Rattle.gate_set.specs.Circuits.{Circuit, IsCircuit}
 use Rattle.gate_set.specs.Shape.{IsOn}
@@ -24,7 +24,7 @@ use Rattle.phases.proofs.Ends.{one_after, one_stops_where, some_after}
 use Rattle.sliq_engine.specs.declared.output.SendStop.{SendStop}
 use Rattle.sliq_engine.specs.declared.output.SendStop.TheVariants as sends
 use Rattle.sliq_engine.specs.declared.cause.Cause.{Cause}
-use Rattle.sliq_engine.specs.declared.cause.Cause.TheVariants.{Done, Differs, Unbuilt, Width, WriteFault, OutOfMemory}
+use Rattle.sliq_engine.specs.declared.cause.Cause.TheVariants.{Done, Differs, Unbuilt, Width}
 use Rattle.sliq_engine.specs.Steps.{Reads, SameQubits, Output, Writes}
 use Rattle.sliq_engine.specs.Eq.{Multiplies, told_by, Says, Compares}
 use Rattle.sliq_engine.specs.Ending.{MayEnd, MayStopBy}

@@ -1,12 +1,13 @@
 mod ListingLemmas
 mod MessageLemmas
 mod WalkLemmas
+mod FoundLemmas
 mod Endings
 mod StepLemmas
+mod SlicedWalks
 mod SimLemmas
 mod EqLemmas
 mod EqTexts
-mod OutcomeLines
 mod ProbLemmas
 mod CommandLemmas
 mod TakingLemmas

@@ -5,8 +5,7 @@ use Rattle.sliq_engine.specs.declared.cause.Cause.TheVariants.{BadWords, OutOfMe
 use Rattle.sliq_words.specs.Asked.{Request, asked_of}
 use Rattle.outside.specs.Outside.{Shelf}
 use Rattle.sliq_engine.specs.Taking.{Takes}
-use Rattle.sliq_engine.specs.Commands.{CarriesOut}
-use Rattle.sliq_engine.specs.Comes.{Asks, Comes}
+use Rattle.sliq_engine.specs.Comes.{CarriesOut, Asks, Comes}
 use Rattle.sliq_engine.specs.Ending.{MayEnd, MayStopBy}
 use Rattle.sliq_engine.proofs.Endings.{ends_first, ends_after}
 

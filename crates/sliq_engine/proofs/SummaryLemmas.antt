@@ -5,26 +5,14 @@ use Rattle.std.specs.Option.{ForSome}
 use Rattle.std.specs.List.{filter}
 use Rattle.std.proofs.lemmas.List.{append_assoc, take_more, take-append-drop}
 use Rattle.std.proofs.lemmas.List.Elements.{filter-append}
-use Rattle.ring_omega.specs.declared.quad.Quad.{Quad}
-use Rattle.ring_omega.specs.Ring.{is_zero, zero_quad}
-use Rattle.ring_omega.specs.Lowest.{lowest_form}
-use Rattle.ring_omega.proofs.RingLemmas.{Decides-is_zero}
 use Rattle.bit_lists.specs.Lists.{all_lists, place_of}
 use Rattle.bit_lists.proofs.Places.{length-all_lists, get_or-all_lists}
 use Rattle.circuit_model.specs.Working.{Scaled}
 use Rattle.amp_printer.specs.declared.counted.Counted.TheVariants.{Qubits, Gates, Exponent, States}
-use Rattle.amp_printer.specs.Texts.{state_line, count_line}
-use Rattle.sliq_engine.specs.Listing.{states_of}
+use Rattle.amp_printer.specs.Texts.{count_line}
+use Rattle.sliq_engine.specs.Listing.{number_listed, has_no_entry, entry_line}
 use Rattle.sliq_engine.specs.Demo.{first_of, last_of, shown, labelled, summary_output}
-use Rattle.sliq_engine.proofs.WalkLemmas.{place_after, place_next, place_below, IsShown, IsFound, nonzero_test, found_place, found_shown}
-
--- the basis states before a place whose entries aren't zero
-unfoldable pub shown_before : ℕ → (List Bool → Quad) → ℕ → List (List Bool)
-shown_before n v place = filter (λ x. not (is_zero (v x))) (take place (all_lists n))
-
-pub shown_none : (n : ℕ) (v : List Bool → Quad) → shown_before n v 0 ≡ []
-unfolding shown_before
-shown_none n v = refl
+use Rattle.sliq_engine.proofs.WalkLemmas.{place_after, place_next, place_below, IsShown, IsFound, found_place, found_shown}
 
 one_kept : (p : List Bool → Bool) (x : List Bool) → p x ≡ true → filter p (x ∷ []) ≡ x ∷ []
 one_kept p x e = rw e refl
@@ -32,87 +20,93 @@ one_kept p x e = rw e refl
 one_dropped : (p : List Bool → Bool) (x : List Bool) → p x ≡ false → filter p (x ∷ []) ≡ []
 one_dropped p x e = rw e refl
 
-shown_more : (n : ℕ) (v : List Bool → Quad) (x : List Bool) → length x ≡ n → shown_before n v (place_of x + 1) ≡ shown_before n v (place_of x) ++ filter (λ y. not (is_zero (v y))) (x ∷ [])
-unfolding shown_before
-shown_more n v x long =
-    let p = λ (y : List Bool). not (is_zero (v y)) in
-    let within : place_of x < length (all_lists n) = omega (arith, place_below n x long, length-all_lists n) in
-    ap (filter p) (take_more (all_lists n) (place_of x) [] within)
-    ∙ filter-append p (take (place_of x) (all_lists n)) (get_or (all_lists n) (place_of x) [] ∷ [])
-    ∙ ap (λ y. filter p (take (place_of x) (all_lists n)) ++ filter p (y ∷ [])) (get_or-all_lists n x [] long)
-
--- one basis state more
-shown_one : (n : ℕ) (v : List Bool → Quad) (x : List Bool) → IsShown n v x → shown_before n v (place_of x + 1) ≡ shown_before n v (place_of x) ++ x ∷ []
-shown_one n v x s =
-    shown_more n v x s.long ∙ ap (λ l. shown_before n v (place_of x) ++ l) (one_kept (λ y. not (is_zero (v y))) x (ap not (nonzero_test (v x) s.nonzero)))
-
-shown_skip : (n : ℕ) (v : List Bool → Quad) (x : List Bool) → length x ≡ n → v x ≡ zero_quad → shown_before n v (place_of x) ≡ shown_before n v (place_of x + 1)
-shown_skip n v x long z =
-    sym (shown_more n v x long ∙ ap (λ l. shown_before n v (place_of x) ++ l) (one_dropped (λ y. not (is_zero (v y))) x (ap not ((Decides-is_zero (v x)).1 z)))
-    ∙ append-nil (shown_before n v (place_of x)))
-
--- between two of them there is none
-found_before : (n : ℕ) (v : List Bool → Quad) (given next : Option (List Bool)) → IsFound n v given next → shown_before n v (place_after given) ≡ shown_before n v (place_next n next)
-found_before n v given next f = found_place n v (shown_before n v) (shown_skip n v) given next f
-
-pub shown_all : (n : ℕ) (v : List Bool → Quad) → shown_before n v (2 ^ n) ≡ shown n v
-unfolding shown_before
-shown_all n v =
-    ap (filter (λ (x : List Bool). not (is_zero (v x)))) (ap (λ i. take i (all_lists n)) (sym (length-all_lists n)) ∙ take-length (all_lists n))
-
-shown_front : (n : ℕ) (v : List Bool → Quad) (place : ℕ) → (rest : List (List Bool)) × (shown n v ≡ shown_before n v place ++ rest)
-unfolding shown_before
-shown_front n v place =
-    let p = λ (y : List Bool). not (is_zero (v y)) in (
-      filter p (drop place (all_lists n)),
-      ap (filter p) (sym (take-append-drop place (all_lists n))) ∙ filter-append p (take place (all_lists n)) (drop place (all_lists n)),
-    )
-
 last_one : (xs : List (List Bool)) (x : List Bool) → last_of (xs ++ x ∷ []) ≡ Some x
 last_one [] x = refl
 last_one (y ∷ []) x = refl
 last_one (y ∷ z ∷ zs) x = last_one (z ∷ zs) x
 
--- the first that is found is the first of all
-pub first_found : (n : ℕ) (v : List Bool → Quad) (next : Option (List Bool)) → IsFound n v None next → next ≡ first_of (shown n v)
-first_found n v None f = ap first_of (sym (shown_none n v) ∙ found_before n v None None f ∙ shown_all n v)
-first_found n v (Some x) f =
-    let rest = shown_front n v (place_of x + 1) in
-    let here : IsShown n v x = found_shown n v None (Some x) f x refl in
-    let start : shown_before n v (place_of x) ≡ [] = sym (found_before n v None (Some x) f) ∙ shown_none n v in
-    sym (ap first_of (rest.1 ∙ ap (λ l. l ++ rest.0) (shown_one n v x here ∙ ap (λ l. l ++ x ∷ []) start)))
+module _ (n : ℕ) (w : Scaled) where
+  -- the basis states before a place whose entries aren't zero
+  unfoldable pub shown_before : ℕ → List (List Bool)
+  shown_before place = filter (λ x. not (has_no_entry w x)) (take place (all_lists n))
 
--- before the first there is none
-pub none_found : (n : ℕ) (v : List Bool → Quad) (next : Option (List Bool)) → IsFound n v None next → None ≡ last_of (shown_before n v (place_next n next))
-none_found n v next f = ap last_of (sym (shown_none n v) ∙ found_before n v None next f)
+  shown_none : shown_before 0 ≡ []
+  unfolding shown_before
+  shown_none = refl
 
--- the one that was found is the last before the next
-pub last_found : (n : ℕ) (v : List Bool → Quad) (x : List Bool) (next then : Option (List Bool)) → next ≡ Some x → ForSome next (IsShown n v) → IsFound n v (Some x) then
-    → Some x ≡ last_of (shown_before n v (place_next n then))
-last_found n v x next then here shown f =
-    sym (ap last_of (sym (found_before n v (Some x) then f) ∙ shown_one n v x (shown x here)) ∙ last_one (shown_before n v (place_of x)) x)
+  shown_more : (x : List Bool) → length x ≡ n → shown_before (place_of x + 1) ≡ shown_before (place_of x) ++ filter (λ y. not (has_no_entry w y)) (x ∷ [])
+  unfolding shown_before
+  shown_more x long =
+      let p = λ (y : List Bool). not (has_no_entry w y) in
+      let within : place_of x < length (all_lists n) = omega (arith, place_below n x long, length-all_lists n) in
+      ap (filter p) (take_more (all_lists n) (place_of x) [] within)
+      ∙ filter-append p (take (place_of x) (all_lists n)) (get_or (all_lists n) (place_of x) [] ∷ [])
+      ∙ ap (λ y. filter p (take (place_of x) (all_lists n)) ++ filter p (y ∷ [])) (get_or-all_lists n x [] long)
+
+  -- one basis state more
+  shown_one : (x : List Bool) → IsShown n (has_no_entry w) x → shown_before (place_of x + 1) ≡ shown_before (place_of x) ++ x ∷ []
+  shown_one x s = shown_more x s.long ∙ ap (λ l. shown_before (place_of x) ++ l) (one_kept (λ y. not (has_no_entry w y)) x (ap not s.shown))
+
+  shown_skip : (x : List Bool) → length x ≡ n → has_no_entry w x ≡ true → shown_before (place_of x) ≡ shown_before (place_of x + 1)
+  shown_skip x long none =
+      sym (shown_more x long ∙ ap (λ l. shown_before (place_of x) ++ l) (one_dropped (λ y. not (has_no_entry w y)) x (ap not none)) ∙ append-nil (shown_before (place_of x)))
+
+  -- between two of them there is none
+  found_before : (given next : Option (List Bool)) → IsFound n (has_no_entry w) given next → shown_before (place_after given) ≡ shown_before (place_next n next)
+  found_before given next f = found_place n (has_no_entry w) shown_before shown_skip given next f
+
+  pub shown_all : shown_before (2 ^ n) ≡ shown n w
+  unfolding shown_before
+  shown_all = ap (filter (λ (x : List Bool). not (has_no_entry w x))) (ap (λ i. take i (all_lists n)) (sym (length-all_lists n)) ∙ take-length (all_lists n))
+
+  shown_front : (place : ℕ) → (rest : List (List Bool)) × (shown n w ≡ shown_before place ++ rest)
+  unfolding shown_before
+  shown_front place =
+      let p = λ (y : List Bool). not (has_no_entry w y) in (
+        filter p (drop place (all_lists n)),
+        ap (filter p) (sym (take-append-drop place (all_lists n))) ∙ filter-append p (take place (all_lists n)) (drop place (all_lists n)),
+      )
+
+  -- the first that is found is the first of all
+  pub first_found : (next : Option (List Bool)) → IsFound n (has_no_entry w) None next → next ≡ first_of (shown n w)
+  first_found None f = ap first_of (sym shown_none ∙ found_before None None f ∙ shown_all)
+  first_found (Some x) f =
+      let rest = shown_front (place_of x + 1) in
+      let here : IsShown n (has_no_entry w) x = found_shown n (has_no_entry w) None (Some x) f x refl in
+      let start : shown_before (place_of x) ≡ [] = sym (found_before None (Some x) f) ∙ shown_none in
+      sym (ap first_of (rest.1 ∙ ap (λ l. l ++ rest.0) (shown_one x here ∙ ap (λ l. l ++ x ∷ []) start)))
+
+  -- before the first there is none
+  pub none_found : (next : Option (List Bool)) → IsFound n (has_no_entry w) None next → None ≡ last_of (shown_before (place_next n next))
+  none_found next f = ap last_of (sym shown_none ∙ found_before None next f)
+
+  -- the one that was found is the last before the next
+  pub last_found : (x : List Bool) (next then : Option (List Bool)) → next ≡ Some x → ForSome next (IsShown n (has_no_entry w)) → IsFound n (has_no_entry w) (Some x) then
+      → Some x ≡ last_of (shown_before (place_next n then))
+  last_found x next then here shown f =
+      sym (ap last_of (sym (found_before (Some x) then f) ∙ shown_one x (shown x here)) ∙ last_one (shown_before (place_of x)) x)
 
 -- the line of a basis state behind its label
 pub labelled_wrote : (label t0 t1 t2 : List ℕ) (w : Scaled) (x : List Bool) (o : Option (List Bool)) → o ≡ Some x → t1 ≡ t0 ++ label
-    → t2 ≡ t1 ++ state_line x (lowest_form (w.entries x) w.exponent).0 (lowest_form (w.entries x) w.exponent).1 → t2 ≡ t0 ++ labelled label w o
+    → t2 ≡ t1 ++ entry_line w x → t2 ≡ t0 ++ labelled label w o
 labelled_wrote label t0 t1 t2 w x o is e f =
-    let line = state_line x (lowest_form (w.entries x) w.exponent).0 (lowest_form (w.entries x) w.exponent).1 in
+    let line = entry_line w x in
     f ∙ ap (λ t. t ++ line) e ∙ append_assoc t0 label line ∙ ap (λ p. t0 ++ labelled label w p) (sym is)
 
 pub unlabelled : (label t : List ℕ) (w : Scaled) (o : Option (List Bool)) → o ≡ None → t ≡ t ++ labelled label w o
 unlabelled label t w o is = sym (append-nil t) ∙ ap (λ p. t ++ labelled label w p) (sym is)
 
 -- the six pieces
-pub summary_wrote : (n count k states : ℕ) (w : Scaled) (first last : Option (List Bool)) (t1 t2 t3 t4 t5 t6 : List ℕ) → k ≡ w.exponent → states ≡ states_of n w.entries
-    → first ≡ first_of (shown n w.entries) → last ≡ last_of (shown n w.entries)
+pub summary_wrote : (n count k states : ℕ) (w : Scaled) (first last : Option (List Bool)) (t1 t2 t3 t4 t5 t6 : List ℕ) → k ≡ w.exponent → states ≡ number_listed n (has_no_entry w)
+    → first ≡ first_of (shown n w) → last ≡ last_of (shown n w)
     → t1 ≡ [] ++ count_line Qubits n → t2 ≡ t1 ++ count_line Gates count → t3 ≡ t2 ++ count_line Exponent k → t4 ≡ t3 ++ count_line States states
     → t5 ≡ t4 ++ labelled (codes "first ") w first → t6 ≡ t5 ++ labelled (codes "last ") w last → t6 ≡ summary_output n count w
 unfolding summary_output
 summary_wrote n count k states w first last t1 t2 t3 t4 t5 t6 roots counted begins ends e1 e2 e3 e4 e5 e6 =
     e6 ∙ ap (λ o. t5 ++ labelled (codes "last ") w o) ends
-    ∙ ap (λ t. t ++ labelled (codes "last ") w (last_of (shown n w.entries)))
+    ∙ ap (λ t. t ++ labelled (codes "last ") w (last_of (shown n w)))
     (e5 ∙ ap (λ o. t4 ++ labelled (codes "first ") w o) begins
-    ∙ ap (λ t. t ++ labelled (codes "first ") w (first_of (shown n w.entries)))
+    ∙ ap (λ t. t ++ labelled (codes "first ") w (first_of (shown n w)))
     (e4 ∙ ap (λ m. t3 ++ count_line States m) counted
-    ∙ ap (λ t. t ++ count_line States (states_of n w.entries))
+    ∙ ap (λ t. t ++ count_line States (number_listed n (has_no_entry w)))
     (e3 ∙ ap (λ m. t2 ++ count_line Exponent m) roots ∙ ap (λ t. t ++ count_line Exponent w.exponent) (e2 ∙ ap (λ t. t ++ count_line Gates count) e1))))

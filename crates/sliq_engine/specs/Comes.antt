@@ -1,13 +1,26 @@
 -- What a run comes to.
-use Rattle.std.specs.Prelude.{◌≡◌, ℕ, List, Some, None, Ok, Err}
+use Rattle.std.specs.Prelude.{◌≡◌, ℕ, List, [], get_or, Some, None, Ok, Err}
 use Rattle.outside.specs.Outside.{Shelf}
 use Rattle.phases.specs.Phases.{Phase, ◌>>=◌}
+use Rattle.amp_dense.specs.Rules.{Settings}
+use Rattle.sliq_words.specs.Asked.{Request, asked_of}
+use Rattle.sliq_words.specs.declared.reading.Task.{Task}
+use Rattle.sliq_words.specs.declared.reading.Task.TheVariants as task
 use Rattle.sliq_engine.specs.declared.cause.Cause.{Cause}
 use Rattle.sliq_engine.specs.declared.cause.Cause.TheVariants.{BadWords}
-use Rattle.sliq_words.specs.Asked.{Request, asked_of}
 use Rattle.sliq_engine.specs.Taking.{Takes}
 use Rattle.sliq_engine.specs.Steps.{Output}
-use Rattle.sliq_engine.specs.Commands.{CarriesOut}
+use Rattle.sliq_engine.specs.Sim.{Sims}
+use Rattle.sliq_engine.specs.Eq.{Compares}
+use Rattle.sliq_engine.specs.Prob.{Weighs}
+use Rattle.sliq_engine.specs.Demo.{Demonstrates}
+
+-- each command, on the texts of its files
+abbrev pub CarriesOut : Task → Settings → List (List ℕ) → Phase Output Cause
+CarriesOut (task.Sim bits) rules texts = Sims bits rules (get_or texts 0 [])
+CarriesOut task.Prob rules texts = Weighs rules (get_or texts 0 [])
+CarriesOut task.Eq rules texts = Compares rules (get_or texts 0 []) (get_or texts 1 [])
+CarriesOut (task.Demo qubits gates seed) rules texts = Demonstrates rules qubits gates seed
 
 -- the words ask for something; else the shelf stays as it is
 abbrev pub Asks : {S : Type 0} → List (List ℕ) → S → S → Phase Request Cause

@@ -1,20 +1,17 @@
 -- `demo`.
-use Rattle.std.specs.Prelude.{ℕ, ◌<◌, Bool, not, List, [], ◌∷◌, ◌++◌, length, filter, codes, Option, Some, None}
-use Rattle.ring_omega.specs.declared.quad.Quad.{Quad}
-use Rattle.ring_omega.specs.Ring.{is_zero}
-use Rattle.ring_omega.specs.Lowest.{lowest_form}
+use Rattle.std.specs.Prelude.{ℕ, Bool, not, List, [], ◌∷◌, ◌++◌, length, filter, codes, Option, Some, None}
 use Rattle.bit_lists.specs.Lists.{all_lists}
 use Rattle.gate_set.specs.declared.gate.Gate.{Gate}
 use Rattle.circuit_model.specs.Working.{Scaled, work}
 use Rattle.amp_dense.specs.Rules.{Settings}
-use Rattle.amp_dense.specs.Standing.{dense_policy}
 use Rattle.amp_printer.specs.declared.counted.Counted.TheVariants.{Qubits, Gates, Exponent, States}
-use Rattle.amp_printer.specs.Texts.{state_line, count_line}
+use Rattle.amp_printer.specs.Texts.{count_line}
 use Rattle.demo_text.specs.Generator.{demo_text}
-use Rattle.phases.specs.Phases.{Phase, ◌>>=◌, ◌>>◌, StopsWhere}
+use Rattle.state_update.specs.Kept.{sliced_policy}
+use Rattle.phases.specs.Phases.{Phase, ◌>>=◌, ◌>>◌}
 use Rattle.sliq_engine.specs.declared.cause.Cause.{Cause}
-use Rattle.sliq_engine.specs.declared.cause.Cause.TheVariants.{Done, Unbuilt}
-use Rattle.sliq_engine.specs.Listing.{states_of}
+use Rattle.sliq_engine.specs.declared.cause.Cause.TheVariants.{Done}
+use Rattle.sliq_engine.specs.Listing.{number_listed, has_no_entry, entry_line}
 use Rattle.sliq_engine.specs.Steps.{Reads, zeros, Simulates, Output, Writes}
 
 -- the first of a list, if there is one
@@ -29,19 +26,19 @@ last_of (x ∷ []) = Some x
 last_of (x ∷ y ∷ ys) = last_of (y ∷ ys)
 
 -- the basis states of n qubits whose amplitude isn't zero, in their order
-abbrev pub shown : ℕ → (List Bool → Quad) → List (List Bool)
-shown n v = filter (λ x. not (is_zero (v x))) (all_lists n)
+abbrev pub shown : ℕ → Scaled → List (List Bool)
+shown n v = filter (λ x. not (has_no_entry v x)) (all_lists n)
 
 -- a label and the line of a basis state, if there is one
 abbrev pub labelled : List ℕ → Scaled → Option (List Bool) → List ℕ
 labelled label w None = []
-labelled label w (Some x) = label ++ state_line x (lowest_form (w.entries x) w.exponent).0 (lowest_form (w.entries x) w.exponent).1
+labelled label w (Some x) = label ++ entry_line w x
 
 -- what is written of a working vector on n qubits after so many gates: four numbers, and the first and the last of its basis states
 unfoldable pub summary_output : ℕ → ℕ → Scaled → List ℕ
 summary_output n count w =
-    count_line Qubits n ++ count_line Gates count ++ count_line Exponent w.exponent ++ count_line States (states_of n w.entries)
-    ++ labelled (codes "first ") w (first_of (shown n w.entries)) ++ labelled (codes "last ") w (last_of (shown n w.entries))
+    count_line Qubits n ++ count_line Gates count ++ count_line Exponent w.exponent ++ count_line States (number_listed n (has_no_entry w))
+    ++ labelled (codes "first ") w (first_of (shown n w)) ++ labelled (codes "last ") w (last_of (shown n w))
 
 -- what is written of a circuit: of its working vector on the basis state of all zeros
 abbrev pub demo_output : ℕ → List Gate → List ℕ
@@ -51,6 +48,5 @@ demo_output n gates = summary_output n (length gates) (work gates (zeros n))
 abbrev pub Demonstrates : Settings → ℕ → ℕ → ℕ → Phase Output Cause
 Demonstrates rules qubits gates seed = do
   c ← Reads 1 (demo_text qubits gates seed)
-  StopsWhere (12 < c.qubits) (Unbuilt 1)
-  Simulates dense_policy rules (zeros c.qubits) c.gates
+  Simulates sliced_policy rules (zeros c.qubits) c.gates
   Writes Done (demo_output c.qubits c.gates)

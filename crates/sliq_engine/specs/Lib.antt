@@ -6,7 +6,6 @@ pub mod Sim
 pub mod Eq
 pub mod Prob
 pub mod Demo
-pub mod Commands
 pub mod Comes
 pub mod Ending
 pub mod Status

@@ -1,6 +1,5 @@
--- The lines of a vector.
+-- Listings: a line for each list of n bits in order, but for those that are left out; and the lines of a vector.
 use Rattle.std.specs.Prelude.{ℕ, Bool, not, cond, List, [], ◌++◌, flat_map, count_by}
-use Rattle.ring_omega.specs.declared.quad.Quad.{Quad}
 use Rattle.ring_omega.specs.Ring.{is_zero}
 use Rattle.ring_omega.specs.Lowest.{lowest_form}
 use Rattle.bit_lists.specs.Lists.{all_lists}
@@ -8,18 +7,22 @@ use Rattle.circuit_model.specs.Working.{Scaled}
 use Rattle.amp_printer.specs.declared.counted.Counted.TheVariants.{Qubits, States}
 use Rattle.amp_printer.specs.Texts.{state_line, count_line}
 
--- the line of one basis state with the lowest form of its amplitude, or nothing where that is zero
-abbrev pub line_at : Quad → ℕ → List Bool → List ℕ
-line_at q k x = cond (is_zero q) [] (state_line x (lowest_form q k).0 (lowest_form q k).1)
+-- their lines
+abbrev pub listing_of : ℕ → (List Bool → Bool) → (List Bool → List ℕ) → List ℕ
+listing_of n left_out line = flat_map (λ x. cond (left_out x) [] (line x)) (all_lists n)
 
--- the lines of the basis states of n qubits in order
-abbrev pub listing_of : ℕ → (List Bool → Quad) → ℕ → List ℕ
-listing_of n v k = flat_map (λ x. line_at (v x) k x) (all_lists n)
+-- how many have a line
+abbrev pub number_listed : ℕ → (List Bool → Bool) → ℕ
+number_listed n left_out = count_by (λ x. not (left_out x)) (all_lists n)
 
--- the number of basis states whose amplitude isn't zero
-abbrev pub states_of : ℕ → (List Bool → Quad) → ℕ
-states_of n v = count_by (λ x. not (is_zero (v x))) (all_lists n)
+-- whether the entry of a basis state is zero
+abbrev pub has_no_entry : Scaled → List Bool → Bool
+has_no_entry v x = is_zero (v.entries x)
+
+-- the line of a basis state with the lowest form of its amplitude
+abbrev pub entry_line : Scaled → List Bool → List ℕ
+entry_line v x = state_line x (lowest_form (v.entries x) v.exponent).0 (lowest_form (v.entries x) v.exponent).1
 
 -- what is written of a vector on n qubits
 unfoldable pub vector_output : ℕ → Scaled → List ℕ
-vector_output n v = count_line Qubits n ++ listing_of n v.entries v.exponent ++ count_line States (states_of n v.entries)
+vector_output n v = count_line Qubits n ++ listing_of n (has_no_entry v) (entry_line v) ++ count_line States (number_listed n (has_no_entry v))

@@ -1,13 +1,11 @@
 -- Words that only the clauses of private functions cite.
-use Rattle.std.specs.Prelude.{ℕ, not, cond, List, map, Vec}
+use Rattle.std.specs.Prelude.{ℕ, List, map, Vec}
 use Rattle.std.specs.Global.{Global}
 use Rattle.dense_matrix.specs.declared.comparing.MatrixStop.{MatrixStop}
 use Rattle.dense_matrix.specs.declared.comparing.MatrixStop.TheVariants as matrices
 use Rattle.sliq_engine.specs.declared.output.SendStop.{SendStop}
 use Rattle.sliq_engine.specs.declared.output.SendStop.TheVariants as sends
 use Rattle.sliq_engine.specs.declared.cause.Cause.{Cause}
-use Rattle.ring_omega.specs.declared.weight.Weight.{Weight}
-use Rattle.probabilities.specs.Outcomes.{is_zero_weight}
 use Rattle.probabilities.specs.declared.weigh.WeighStop.{WeighStop}
 use Rattle.probabilities.specs.declared.weigh.WeighStop.TheVariants as weighs
 use Rattle.sliq_engine.specs.declared.cause.Cause.TheVariants.{Width, WeightTooWide, WriteFault, OutOfMemory}
@@ -30,7 +28,3 @@ cause_of_matrix matrices.OutOfMemory = OutOfMemory
 abbrev pub cause_of_sending : SendStop → Cause
 cause_of_sending sends.Fault = WriteFault
 cause_of_sending sends.OutOfMemory = OutOfMemory
-
--- how many lines an outcome of this weight has
-abbrev pub line_count : Weight → ℕ
-line_count w = cond (not (is_zero_weight w)) 1 0

@@ -1,13 +1,13 @@
 -- `sim`.
-use Rattle.std.specs.Prelude.{ℕ, ◌<◌, Bool, List, length, Option, Some, None}
+use Rattle.std.specs.Prelude.{ℕ, Bool, List, length, Option, Some, None}
 use Rattle.gate_set.specs.declared.gate.Gate.{Gate}
 use Rattle.circuit_model.specs.Product.{amp, exponent}
 use Rattle.circuit_model.specs.Working.{scaled}
 use Rattle.amp_dense.specs.Rules.{Settings}
-use Rattle.amp_dense.specs.Standing.{dense_policy}
-use Rattle.phases.specs.Phases.{Phase, ◌>>=◌, ◌>>◌, StopsWhere}
+use Rattle.state_update.specs.Kept.{sliced_policy}
+use Rattle.phases.specs.Phases.{Phase, ◌>>=◌, ◌>>◌}
 use Rattle.sliq_engine.specs.declared.cause.Cause.{Cause}
-use Rattle.sliq_engine.specs.declared.cause.Cause.TheVariants.{Done, Unbuilt}
+use Rattle.sliq_engine.specs.declared.cause.Cause.TheVariants.{Done}
 use Rattle.sliq_engine.specs.Listing.{vector_output}
 use Rattle.sliq_engine.specs.Steps.{Reads, SameQubits, zeros, Simulates, Output, Writes}
 
@@ -23,7 +23,6 @@ sim_output n input gates = vector_output n (scaled (amp gates input) (exponent g
 abbrev pub Sims : Option (List Bool) → Settings → List ℕ → Phase Output Cause
 Sims bits rules text = do
   c ← Reads 1 text
-  StopsWhere (12 < c.qubits) (Unbuilt 1)
   SameQubits c.qubits (length (input_for bits c.qubits))
-  Simulates dense_policy rules (input_for bits c.qubits) c.gates
+  Simulates sliced_policy rules (input_for bits c.qubits) c.gates
   Writes Done (sim_output c.qubits (input_for bits c.qubits) c.gates)

@@ -7,12 +7,13 @@ ghost use Rattle.sliq_engine.specs.Ending.{MayEnd};
 ghost use Rattle.sliq_engine.specs.Steps.{Reads};
 
 use crate::cause::Cause;
-use crate::simulation::{check_built, simulated, zeros_of};
+use crate::simulation::{simulated, zeros_of};
 use crate::summary::send_summary;
-use amp_dense::{Amplitudes, DenseState, Rules};
+use amp_dense::Rules;
 use demo_reads::demo_circuit;
 use gate_set::Circuit;
 use outside::Sink;
+use state_update::SlicedState;
 use std::alloc::Global;
 
 /// Carries out `demo`: makes a circuit's text, reads it, applies its gates and writes the summary. No file is taken.
@@ -33,9 +34,8 @@ pub fn demo<K: Sink>(
     ensures counts { K.faults out.old ≤ K.faults out.new }
 {
     let circuit = drawn(alloc, qubits, gates, seed)?;
-    check_built(&circuit, DenseState::MOST, 1)?;
     let input = zeros_of(&circuit);
-    let state = simulated::<DenseState>(alloc, &input, &circuit, rules)?;
+    let state = simulated::<SlicedState>(alloc, &input, &circuit, rules)?;
     send_summary(alloc, out, circuit.qubits(), &state)?;
     Ok(())
 }

@@ -4,6 +4,9 @@ use crate::runs::{CALM, Devices, ONE, ended_by, run_on};
 use crate::{Cause, demo_is_never_refused};
 use bit_lists::OutOfMemory;
 
+const SUMMARY_OF_64: &[u8] =
+    b"qubits 64\ngates 204\nexponent 4\nstates 16\nfirst |0000000100000100000001011011001001011010110111110000000100010000> (0,1,0,0)/sqrt2^4\nlast |0010000100000100010001011011001001011010110101110000011100010100> (1,0,0,0)/sqrt2^4\n";
+
 // Summaries that were computed apart from the program. The shelf would fail at its first call.
 #[test]
 fn summaries_of_demo(rt: HostRuntime) -> Result<(), OutOfMemory> {
@@ -78,17 +81,38 @@ fn summaries_of_demo(rt: HostRuntime) -> Result<(), OutOfMemory> {
     Ok(())
 }
 
-// At most twelve qubits.
+// More than twelve qubits; the other rules of upkeep change nothing.
 #[test]
-fn summaries_that_are_not_built(rt: HostRuntime) -> Result<(), OutOfMemory> {
-    for qubits in ["13", "64"] {
-        let ran = run_on(rt.alloc(), &["sliq", "demo", qubits, "1", "7"], ONE, CALM)?;
-        assert!(rt; ended_by(&ran, 4, &Cause::Unbuilt { file: 1 }));
-        assert_eq!(rt; ran.out.written(), b"".as_slice());
-        assert_eq!(rt;
-            ran.err.written(),
-            b"sliq: file 1 not built yet\n".as_slice()
-        );
+fn summaries_of_many_qubits(rt: HostRuntime) -> Result<(), OutOfMemory> {
+    let rows: [(&[&str], &[u8]); 4] = [
+        (
+            &["sliq", "demo", "13", "1", "7"],
+            b"qubits 13\ngates 5\nexponent 4\nstates 16\nfirst |0000010000000> (0,1,0,0)/sqrt2^4\nlast |1111010000000> (0,1,0,0)/sqrt2^4\n",
+        ),
+        (
+            &["sliq", "demo", "13", "60", "7"],
+            b"qubits 13\ngates 64\nexponent 4\nstates 16\nfirst |0100100001000> (0,0,0,1)/sqrt2^4\nlast |1101100111100> (0,1,0,0)/sqrt2^4\n",
+        ),
+        (&["sliq", "demo", "64", "200", "7"], SUMMARY_OF_64),
+        (
+            &[
+                "sliq",
+                "demo",
+                "64",
+                "200",
+                "7",
+                "--reclaim",
+                "1",
+                "--cache",
+                "1",
+            ],
+            SUMMARY_OF_64,
+        ),
+    ];
+    for (words, output) in rows {
+        let ran = run_on(rt.alloc(), words, ONE, CALM)?;
+        assert!(rt; ended_by(&ran, 0, &Cause::Done), "{words:?}");
+        assert_eq!(rt; ran.out.written(), output, "{words:?}");
     }
     Ok(())
 }

@@ -114,24 +114,33 @@ fn circuits_and_their_verdicts(rt: HostRuntime) -> Result<(), OutOfMemory> {
     Ok(())
 }
 
+// The text of a file has no version.
+fn refused(file: u8) -> Cause {
+    Cause::Refused {
+        file,
+        refusal: Refusal {
+            statement: 1,
+            why: Why::NoVersion,
+        },
+    }
+}
+
 // The order of causes: both texts, then what isn't built, then the numbers of qubits.
 #[test]
 fn circuits_that_are_not_compared(rt: HostRuntime) -> Result<(), OutOfMemory> {
     let two = b"OPENQASM 2.0; qreg q[2];".as_slice();
     let three = b"OPENQASM 2.0; qreg q[3];".as_slice();
     let seven = b"OPENQASM 2.0; qreg q[7];".as_slice();
-    let refusal = Refusal {
-        statement: 1,
-        why: Why::NoVersion,
-    };
-    let first = Cause::Refused { file: 1, refusal };
-    let second = Cause::Refused { file: 2, refusal };
-    let differ = Cause::QubitsDiffer {
-        first: 2,
-        second: 3,
-    };
     let rows: [(&[u8], &[u8], Cause, &[u8]); 9] = [
-        (two, three, differ, b"sliq: qubits differ: 2 and 3\n"),
+        (
+            two,
+            three,
+            Cause::QubitsDiffer {
+                first: 2,
+                second: 3,
+            },
+            b"sliq: qubits differ: 2 and 3\n",
+        ),
         (
             three,
             two,
@@ -159,13 +168,28 @@ fn circuits_that_are_not_compared(rt: HostRuntime) -> Result<(), OutOfMemory> {
             Cause::Unbuilt { file: 1 },
             b"sliq: file 1 not built yet\n",
         ),
-        (b"x", two, first, b"sliq: file 1 statement 1: NoVersion\n"),
-        (two, b"x", second, b"sliq: file 2 statement 1: NoVersion\n"),
-        (b"x", b"x", first, b"sliq: file 1 statement 1: NoVersion\n"),
+        (
+            b"x",
+            two,
+            refused(1),
+            b"sliq: file 1 statement 1: NoVersion\n",
+        ),
+        (
+            two,
+            b"x",
+            refused(2),
+            b"sliq: file 2 statement 1: NoVersion\n",
+        ),
+        (
+            b"x",
+            b"x",
+            refused(1),
+            b"sliq: file 1 statement 1: NoVersion\n",
+        ),
         (
             seven,
             b"x",
-            second,
+            refused(2),
             b"sliq: file 2 statement 1: NoVersion\n",
         ),
     ];

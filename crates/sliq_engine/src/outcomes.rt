@@ -5,9 +5,9 @@ ghost use Rattle.outside.specs.Bytes.{Added, AddedSome};
 ghost use Rattle.outside.specs.Buffering.{Sent, SentSome};
 ghost use Rattle.amp_dense.specs.Standing.{vector};
 ghost use Rattle.probabilities.specs.Weighing.{total_weight, IsNarrow};
-ghost use Rattle.probabilities.specs.Outcomes.{measured_count, outcome_weight, is_zero_weight};
-ghost use Rattle.sliq_engine.specs.Prob.{outcome_line, outcome_listing, outcomes_of, outcomes_output};
-ghost use Rattle.sliq_engine.specs.Private.{line_count};
+ghost use Rattle.probabilities.specs.Outcomes.{measured_count, outcome_weight};
+ghost use Rattle.sliq_engine.specs.Listing.{listing_of, number_listed};
+ghost use Rattle.sliq_engine.specs.Prob.{has_no_weight, lowest_line, outcome_line, outcomes_output};
 
 use crate::output::{SendStop, send_count};
 use amp_printer::{Counted, weight_line};
@@ -42,7 +42,7 @@ pub fn send_outcomes<A: Weigh, K: Sink>(
     Ok(())
 }
 
-// The lines of the outcomes whose weight isn't zero, and how many they are.
+// The lines of the outcomes whose weight isn't zero, and how many they are: the walk goes from each to the next.
 fn send_weighed<A: Weigh, K: Sink>(
     alloc: Global,
     out: &mut K,
@@ -53,22 +53,22 @@ fn send_weighed<A: Weigh, K: Sink>(
     requires few { length measured.now ≤ 64 }
     requires size { length (A.standing state.now).input ≡ length measured.now }
     requires light { IsNarrow (total_weight (length measured.now) (vector (A.standing state.now)).entries) }
-    ensures ok { OnOk result (Sent (K.written out.old) waiting.old (K.written out.new) waiting.new (outcome_listing measured.now (vector (A.standing state.now)).entries (vector (A.standing state.now)).exponent)) }
-    ensures count { IfOk result (λ m. m ≡ outcomes_of measured.now (vector (A.standing state.now)).entries) }
-    ensures err { OnErr result (SentSome (K.written out.old) waiting.old (K.written out.new) (outcome_listing measured.now (vector (A.standing state.now)).entries (vector (A.standing state.now)).exponent)) }
+    ensures ok { OnOk result (Sent (K.written out.old) waiting.old (K.written out.new) waiting.new (listing_of (measured_count measured.now) (has_no_weight measured.now (vector (A.standing state.now))) (outcome_line measured.now (vector (A.standing state.now))))) }
+    ensures count { IfOk result (λ m. m ≡ number_listed (measured_count measured.now) (has_no_weight measured.now (vector (A.standing state.now)))) }
+    ensures err { OnErr result (SentSome (K.written out.old) waiting.old (K.written out.new) (listing_of (measured_count measured.now) (has_no_weight measured.now (vector (A.standing state.now))) (outcome_line measured.now (vector (A.standing state.now))))) }
     ensures fault { IsErrOf result SendStop.Fault → Rose (K.faults out.old) (K.faults out.new) }
     ensures counts { K.faults out.old ≤ K.faults out.new }
 {
     let k = state.exponent();
-    let mut count = 0;
-    let mut next = Some(Bits::zeros(measured_count(measured)));
+    let mut outcomes = 0;
+    let mut next = state.next_outcome(alloc, measured, None)?;
     'outcomes: while let Some(y) = next {
         let w = weigh_outcome(alloc, measured, state, &y)?;
-        let lines = send_outcome(out, waiting, &y, w, k)?;
-        count += lines;
-        next = y.next_lex();
+        send_outcome(out, waiting, &y, w, k)?;
+        outcomes += 1;
+        next = state.next_outcome(alloc, measured, Some(&y))?;
     }
-    Ok(count)
+    Ok(outcomes)
 }
 
 // The weight of an outcome. It isn't too wide, since all states together aren't.
@@ -90,32 +90,21 @@ fn weigh_outcome<A: Weigh>(
     }
 }
 
-// The line of an outcome, or nothing where its weight is zero, and how many lines that is.
+// The line of an outcome of this weight.
 fn send_outcome<K: Sink>(
     out: &mut K,
     waiting: &mut Buffered,
     y: &Bits,
     w: Weight,
     k: u32,
-) -> Result<u128, Failed>
+) -> Result<(), Failed>
     requires { length y.now ≤ 64 }
-    ensures ok { OnOk result (Sent (K.written out.old) waiting.old (K.written out.new) waiting.new (outcome_line w k y.now)) }
-    ensures count { IfOk result (λ lines. lines ≡ line_count w) }
-    ensures err { OnErr result (SentSome (K.written out.old) waiting.old (K.written out.new) (outcome_line w k y.now)) }
+    ensures ok { OnOk result (Sent (K.written out.old) waiting.old (K.written out.new) waiting.new (lowest_line w k y.now)) }
+    ensures err { OnErr result (SentSome (K.written out.old) waiting.old (K.written out.new) (lowest_line w k y.now)) }
     ensures fault { OnErr result (Rose (K.faults out.old) (K.faults out.new)) }
     ensures counts { K.faults out.old ≤ K.faults out.new }
 {
-    if is_zero(w) {
-        return Ok(0);
-    }
     let (u, j) = lowest_weight(w, k);
     let line = weight_line(y, u, j);
-    waiting.put(out, line.as_bytes())?;
-    Ok(1)
-}
-
-fn is_zero(w: Weight) -> bool
-    ensures { result ≡ is_zero_weight w }
-{
-    w == (Weight { a: 0, b: 0 })
+    waiting.put(out, line.as_bytes())
 }

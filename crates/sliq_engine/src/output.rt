@@ -6,7 +6,7 @@ ghost use Rattle.outside.specs.Buffering.{Sent, SentSome};
 ghost use Rattle.ring_omega.specs.Lowest.{lowest_form};
 ghost use Rattle.amp_dense.specs.Standing.{vector};
 ghost use Rattle.amp_printer.specs.Texts.{state_line, count_line};
-ghost use Rattle.sliq_engine.specs.Listing.{vector_output, listing_of, states_of};
+ghost use Rattle.sliq_engine.specs.Listing.{vector_output, listing_of, number_listed, has_no_entry, entry_line};
 
 use amp_dense::Amplitudes;
 use amp_printer::{Counted, count_line, state_line};
@@ -76,9 +76,9 @@ fn send_nonzero<A: Amplitudes, K: Sink>(
 ) -> Result<u128, SendStop>
     requires few { qubits ≤ 64 }
     requires size { length (A.standing state.now).input ≡ qubits }
-    ensures ok { OnOk result (Sent (K.written out.old) waiting.old (K.written out.new) waiting.new (listing_of qubits (vector (A.standing state.now)).entries (vector (A.standing state.now)).exponent)) }
-    ensures count { IfOk result (λ m. m ≡ states_of qubits (vector (A.standing state.now)).entries) }
-    ensures err { OnErr result (SentSome (K.written out.old) waiting.old (K.written out.new) (listing_of qubits (vector (A.standing state.now)).entries (vector (A.standing state.now)).exponent)) }
+    ensures ok { OnOk result (Sent (K.written out.old) waiting.old (K.written out.new) waiting.new (listing_of qubits (has_no_entry (vector (A.standing state.now))) (entry_line (vector (A.standing state.now))))) }
+    ensures count { IfOk result (λ m. m ≡ number_listed qubits (has_no_entry (vector (A.standing state.now)))) }
+    ensures err { OnErr result (SentSome (K.written out.old) waiting.old (K.written out.new) (listing_of qubits (has_no_entry (vector (A.standing state.now))) (entry_line (vector (A.standing state.now))))) }
     ensures fault { IsErrOf result SendStop.Fault → Rose (K.faults out.old) (K.faults out.new) }
     ensures counts { K.faults out.old ≤ K.faults out.new }
 {

@@ -2,7 +2,7 @@
 ghost use Rattle.std.specs.Prelude.{◌≡◌, ◌≤◌, length, IfErr, OnOk, IsErrOf, All};
 ghost use Rattle.outside.specs.Outside.{Rose};
 ghost use Rattle.sliq_words.specs.Asked.{file_count, InRange};
-ghost use Rattle.sliq_engine.specs.Commands.{CarriesOut};
+ghost use Rattle.sliq_engine.specs.Comes.{CarriesOut};
 ghost use Rattle.sliq_engine.specs.Ending.{MayEnd};
 ghost use Rattle.sliq_engine.specs.Private.{bytes_of};
 

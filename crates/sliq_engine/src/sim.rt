@@ -7,10 +7,11 @@ ghost use Rattle.sliq_engine.specs.Ending.{MayEnd};
 use crate::cause::Cause;
 use crate::output::send_amplitudes;
 use crate::reading::read_circuit;
-use crate::simulation::{check_built, check_qubits, simulated};
-use amp_dense::{Amplitudes, DenseState, Rules};
+use crate::simulation::{check_qubits, simulated};
+use amp_dense::Rules;
 use bit_lists::Bits;
 use outside::Sink;
+use state_update::SlicedState;
 use std::alloc::Global;
 
 /// Carries out `sim` on the text of its file, from the basis state of these bits. Nothing is written before the last gate was applied.
@@ -28,10 +29,9 @@ pub fn sim<K: Sink>(
     ensures counts { K.faults out.old ≤ K.faults out.new }
 {
     let circuit = read_circuit(alloc, 1, text)?;
-    check_built(&circuit, DenseState::MOST, 1)?;
     let input = input_for(bits, circuit.qubits());
     check_qubits(circuit.qubits(), input.len())?;
-    let state = simulated::<DenseState>(alloc, &input, &circuit, rules)?;
+    let state = simulated::<SlicedState>(alloc, &input, &circuit, rules)?;
     send_amplitudes(alloc, out, circuit.qubits(), &state)?;
     Ok(())
 }

@@ -105,33 +105,92 @@ fn circuits_and_their_listings(rt: HostRuntime) -> Result<(), OutOfMemory> {
     Ok(())
 }
 
-// At most twelve qubits: 12 calls on a register of twelve and 6 on places of it make 150 gates.
+// 12 calls on a register of twelve and 6 on places of it make 150 gates.
 #[test]
-fn what_is_built(rt: HostRuntime) -> Result<(), OutOfMemory> {
+fn gates_on_a_register(rt: HostRuntime) -> Result<(), OutOfMemory> {
     let head = b"OPENQASM 2.0;\nqreg q[12];\nx q;\n".as_slice();
     let tail = b"s q; t q;\nx q[0]; h q[11]; t q[11]; x q[3]; s q[11]; h q[5];\n".as_slice();
     let output =
         b"qubits 12\n|100100000000> (0,0,0,1)/sqrt2^2\n|100100000001> (1,0,0,0)/sqrt2^2\n|100101000000> (0,0,0,1)/sqrt2^2\n|100101000001> (1,0,0,0)/sqrt2^2\nstates 4\n".as_slice();
-    let mut text = repeated(rt.alloc(), head, b"h q; z q; h q;\n", 3, tail)?;
+    let text = repeated(rt.alloc(), head, b"h q; z q; h q;\n", 3, tail)?;
     let ran = run_on(rt.alloc(), &["sliq", "sim", "a"], &text, CALM)?;
     assert!(rt; ended_by(&ran, 0, &Cause::Done));
     assert_eq!(rt; ran.out.written(), output);
-    text.extend_from_slice(b"qreg r[1];\n")?;
-    let texts: [&[u8]; 4] = [
-        &text,
-        b"OPENQASM 2.0;\nqreg q[13];\n",
-        b"OPENQASM 2.0;\nqreg q[64];\n",
-        b"OPENQASM 2.0;\nqreg q[12];\nqreg r[1];\nx r;\n",
+    Ok(())
+}
+
+// More qubits than a list of all entries has room for.
+#[test]
+fn more_than_twelve_qubits(rt: HostRuntime) -> Result<(), OutOfMemory> {
+    let rows: [(&[u8], &[u8]); 4] = [
+        (
+            b"OPENQASM 2.0;\nqreg q[12];\nh q[11];\nqreg r[1];\n",
+            b"qubits 13\n|0000000000000> (0,0,0,1)/sqrt2^1\n|0000000000010> (0,0,0,1)/sqrt2^1\nstates 2\n",
+        ),
+        (
+            b"OPENQASM 2.0;\nqreg q[13];\n",
+            b"qubits 13\n|0000000000000> (0,0,0,1)/sqrt2^0\nstates 1\n",
+        ),
+        (
+            b"OPENQASM 2.0;\nqreg q[12];\nqreg r[1];\nx r;\n",
+            b"qubits 13\n|0000000000001> (0,0,0,1)/sqrt2^0\nstates 1\n",
+        ),
+        (
+            b"OPENQASM 2.0;\nqreg q[64];\nx q[63]; h q[0]; t q[0]; h q[0]; ccx q[0],q[63],q[31];\n",
+            b"qubits 64\n|0000000000000000000000000000000000000000000000000000000000000001> (0,0,1,1)/sqrt2^2\n|1000000000000000000000000000000100000000000000000000000000000001> (0,0,-1,1)/sqrt2^2\nstates 2\n",
+        ),
     ];
-    for text in texts {
+    for (text, output) in rows {
         let ran = run_on(rt.alloc(), &["sliq", "sim", "a"], text, CALM)?;
-        assert!(rt; ended_by(&ran, 4, &Cause::Unbuilt { file: 1 }));
-        assert_eq!(rt; ran.out.written(), b"".as_slice());
-        assert_eq!(rt;
-            ran.err.written(),
-            b"sliq: file 1 not built yet\n".as_slice()
-        );
+        assert!(rt; ended_by(&ran, 0, &Cause::Done), "{text:?}");
+        assert_eq!(rt; ran.out.written(), output, "{text:?}");
     }
+    Ok(())
+}
+
+// All qubits in one superposition of all zeros and all ones.
+#[test]
+fn ghz_on_64_qubits(rt: HostRuntime) -> Result<(), OutOfMemory> {
+    let mut text = Vec::from_slice(rt.alloc(), b"OPENQASM 2.0;\nqreg q[64];\nh q[0];\n")?;
+    for i in 0..63u8 {
+        let line = format!(in rt.alloc(); "cx q[{i}],q[{}];\n", i + 1)?;
+        text.extend_from_slice(line.as_bytes())?;
+    }
+    let ran = run_on(rt.alloc(), &["sliq", "sim", "a"], &text, CALM)?;
+    assert!(rt; ended_by(&ran, 0, &Cause::Done));
+    assert_eq!(rt;
+        ran.out.written(),
+        b"qubits 64\n|0000000000000000000000000000000000000000000000000000000000000000> (0,0,0,1)/sqrt2^1\n|1111111111111111111111111111111111111111111111111111111111111111> (0,0,0,1)/sqrt2^1\nstates 2\n".as_slice()
+    );
+    Ok(())
+}
+
+// Pairs of qubits that lie far apart in the order want more than 64 nodes. The step depends on what else is held.
+#[test]
+fn a_node_limit(rt: HostRuntime) -> Result<(), OutOfMemory> {
+    let mut text = Vec::from_slice(rt.alloc(), b"OPENQASM 2.0;\nqreg q[14];\nh q;\n")?;
+    for i in 0..7u8 {
+        let line = format!(in rt.alloc(); "cz q[{i}],q[{}];\n", 13 - i)?;
+        text.extend_from_slice(line.as_bytes())?;
+    }
+    let ran = run_on(
+        rt.alloc(),
+        &["sliq", "sim", "a", "--nodes", "64"],
+        &text,
+        CALM,
+    )?;
+    assert_eq!(rt; ran.ended.status, 5);
+    assert_eq!(rt; ran.out.written(), b"".as_slice());
+    let lines = ran.err.written();
+    assert!(rt; lines.starts_with(b"sliq: node limit at step "));
+    assert!(rt; lines.ends_with(b", held 64, order 0 1 2 3 4 5 6 7 8 9 10 11 12 13\n"));
+    let ran = run_on(
+        rt.alloc(),
+        &["sliq", "sim", "a", "--nodes", "16384", "--width", "8"],
+        &text,
+        CALM,
+    )?;
+    assert!(rt; ended_by(&ran, 0, &Cause::Done));
     Ok(())
 }
 
@@ -360,7 +419,7 @@ fn stops_of_sim(rt: HostRuntime) -> Result<(), OutOfMemory> {
             differ(3, 64),
             b"sliq: qubits differ: 3 and 64\n",
         ),
-        // Before the gates, and behind the size.
+        // Before the gates.
         (
             &["sliq", "sim", "a", "--width=2", "--input=00"],
             H_H,
@@ -370,8 +429,8 @@ fn stops_of_sim(rt: HostRuntime) -> Result<(), OutOfMemory> {
         (
             &["sliq", "sim", "a", "--input=0"],
             b"OPENQASM 2.0;\nqreg q[13];\n",
-            Cause::Unbuilt { file: 1 },
-            b"sliq: file 1 not built yet\n",
+            differ(13, 1),
+            b"sliq: qubits differ: 13 and 1\n",
         ),
         (
             &["sliq", "sim", "b", "--input=0"],

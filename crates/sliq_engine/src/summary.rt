@@ -5,7 +5,7 @@ ghost use Rattle.outside.specs.Outside.{Rose};
 ghost use Rattle.outside.specs.Bytes.{Added, AddedSome};
 ghost use Rattle.amp_dense.specs.Standing.{vector};
 ghost use Rattle.amp_printer.specs.Texts.{count_line};
-ghost use Rattle.sliq_engine.specs.Listing.{states_of};
+ghost use Rattle.sliq_engine.specs.Listing.{number_listed, has_no_entry};
 ghost use Rattle.sliq_engine.specs.Demo.{first_of, last_of, shown, labelled, summary_output};
 
 use crate::output::SendStop;
@@ -65,9 +65,9 @@ fn summary<A: Amplitudes>(alloc: Global, qubits: u8, state: &A) -> Result<Vec<u8
 fn survey<A: Amplitudes>(alloc: Global, qubits: u8, state: &A) -> Result<Shown, OutOfMemory>
     requires few { qubits ≤ 64 }
     requires size { length (A.standing state.now).input ≡ qubits }
-    ensures states { IfOk result (λ s. s.states ≡ states_of qubits (vector (A.standing state.now)).entries) }
-    ensures first { IfOk result (λ s. s.first ≡ first_of (shown qubits (vector (A.standing state.now)).entries)) }
-    ensures last { IfOk result (λ s. s.last ≡ last_of (shown qubits (vector (A.standing state.now)).entries)) }
+    ensures states { IfOk result (λ s. s.states ≡ number_listed qubits (has_no_entry (vector (A.standing state.now)))) }
+    ensures first { IfOk result (λ s. s.first ≡ first_of (shown qubits (vector (A.standing state.now)))) }
+    ensures last { IfOk result (λ s. s.last ≡ last_of (shown qubits (vector (A.standing state.now)))) }
     ensures first_long { IfOk result (λ s. ForSome s.first (λ x. length x ≡ qubits)) }
     ensures last_long { IfOk result (λ s. ForSome s.last (λ x. length x ≡ qubits)) }
 {

@@ -1,4 +1,4 @@
-use Rattle.std.proofs.Common.{rules, ◌≡◌, ◌<◌, length, get_or, arith}
+use Rattle.std.proofs.Common.{rules, ◌≡◌, ◌<◌, length, arith}
 use Rattle.sliq_engine.proofs.MessageLemmas.{one_variable, all_variables}
 use Rattle.sliq_engine.proofs.message.add_order.Goals as goal
 

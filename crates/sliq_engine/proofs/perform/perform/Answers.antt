@@ -6,7 +6,7 @@ use Rattle.sliq_words.specs.declared.reading.Task.{Task}
 use Rattle.sliq_words.specs.declared.reading.Task.TheVariants as task
 use Rattle.sliq_words.specs.Asked.{file_count}
 use Rattle.sliq_engine.specs.Eq.{Compares}
-use Rattle.sliq_engine.specs.Commands.{CarriesOut}
+use Rattle.sliq_engine.specs.Comes.{CarriesOut}
 use Rattle.sliq_engine.specs.Ending.{MayEnd}
 use Rattle.sliq_engine.specs.Private.{bytes_of}
 use Rattle.sliq_engine.proofs.perform.perform.Goals as goal

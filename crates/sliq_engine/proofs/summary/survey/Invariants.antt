@@ -2,6 +2,7 @@ use Rattle.std.proofs.Common.{◌≡◌, ◌≤◌, ◌-◌, ◌^◌, length}
 use Rattle.std.specs.Option.{ForSome}
 use Rattle.amp_dense.specs.Standing.{vector}
 use Rattle.sliq_engine.specs.Demo.{last_of}
+use Rattle.sliq_engine.specs.Listing.{has_no_entry}
 use Rattle.sliq_engine.proofs.SummaryLemmas.{shown_before}
 use Rattle.sliq_engine.proofs.WalkLemmas.{place_next, counted, IsShown}
 use Rattle.sliq_engine.proofs.summary.survey.Given as goal
@@ -10,12 +11,12 @@ use Rattle.sliq_engine.proofs.summary.survey.Given as goal
 abbrev pub invariant-states : goal.invariant-states
 invariant-states g l =
     let n = l.qubits in
-    let v = (vector (g.A.Amplitudes.standing l.state)).entries in
+    let w = vector (g.A.Amplitudes.standing l.state) in
     record {
-      count : l.states ≡ counted n v (place_next n l.next);
+      count : l.states ≡ counted n (has_no_entry w) (place_next n l.next);
       few : l.states ≤ place_next n l.next;
-      shown : ForSome l.next (IsShown n v);
-      last : l.last ≡ last_of (shown_before n v (place_next n l.next));
+      shown : ForSome l.next (IsShown n (has_no_entry w));
+      last : l.last ≡ last_of (shown_before n w (place_next n l.next));
       long : ForSome l.last (λ x. length x ≡ n);
     }
 

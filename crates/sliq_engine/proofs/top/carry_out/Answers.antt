@@ -4,7 +4,7 @@ use Rattle.sliq_engine.specs.declared.cause.Cause.{Cause}
 use Rattle.sliq_engine.specs.declared.cause.Cause.TheVariants.{Done}
 use Rattle.outside.specs.Outside.{Shelf}
 use Rattle.sliq_engine.specs.Taking.{Takes}
-use Rattle.sliq_engine.specs.Commands.{CarriesOut}
+use Rattle.sliq_engine.specs.Comes.{CarriesOut}
 use Rattle.sliq_engine.specs.Ending.{MayEnd, MayStopBy}
 use Rattle.sliq_engine.specs.Private.{bytes_of}
 use Rattle.sliq_engine.proofs.RunLemmas.{run_bad, run_untaken, run_taken}
