@@ -1,0 +1,104 @@
+//! One step on a vector or a matrix, with reclaims.
+ghost use Rattle.std.specs.Prelude.{◌≡◌, ◌+◌, ◌<◌, ◌≤◌, ◌^◌, IfErr, OnOk, OnErr, true, length};
+ghost use Rattle.node_reclaim.specs.Reclaims.{HoldsOnly};
+ghost use Rattle.slice_quad.specs.Settled.{IsSettled};
+ghost use Rattle.slice_quad.specs.Stepping.{stepped, half_of, IsStepOn, IsWork};
+ghost use Rattle.slice_quad.specs.Stops.{OnWidth};
+ghost use Rattle.slice_quad.specs.Vectors.{vector_in, FitsWidth, Stands};
+ghost use Rattle.step_upkeep.specs.Due.{is_due};
+ghost use Rattle.step_upkeep.specs.Tried.{IsStepped, IsTried, is_full};
+ghost use Rattle.step_upkeep.specs.Upkept.{KeepsQuad, NeedsNodes, work_in};
+
+use crate::upkeep::{reclaim_due, reclaim_to};
+use diagram_ops::Diagrams;
+use slice_quad::{QuadStop, SliceQuad, Step, step};
+use std::alloc::Global;
+
+/// Whether a step was refused for want of nodes.
+fn is_full(answer: &Result<(), QuadStop>) -> bool
+    ensures { result ≡ is_full answer.now }
+{
+    match answer {
+        Ok(()) => false,
+        Err(QuadStop::Width) => false,
+        Err(QuadStop::Full { .. }) => true,
+        Err(QuadStop::OutOfMemory) => false,
+    }
+}
+
+/// The step, as one fact.
+fn once(d: &mut Diagrams, q: &mut SliceQuad, s: &Step, width: u8) -> Result<(), QuadStop>
+    requires stands { Stands d.old.store q.old }
+    requires on { IsStepOn (length d.old.store.order) s.now }
+    requires least { 2 ≤ width }
+    requires greatest { width ≤ 128 }
+    requires exponent { q.old.exponent + half_of s.now < 2 ^ 32 }
+    ensures { IsStepped d.old d.new s.now q.old q.new width result }
+{
+    let answer = step(d, q, s, width);
+    answer
+}
+
+/// The step, and once more after a reclaim where there were too few nodes for it.
+fn tried(
+    alloc: Global,
+    d: &mut Diagrams,
+    q: &mut SliceQuad,
+    s: &Step,
+    width: u8,
+) -> Result<(), QuadStop>
+    requires stands { Stands d.old.store q.old }
+    requires on { IsStepOn (length d.old.store.order) s.now }
+    requires least { 2 ≤ width }
+    requires greatest { width ≤ 128 }
+    requires exponent { q.old.exponent + half_of s.now < 2 ^ 32 }
+    ensures { IsTried d.old d.new s.now q.old q.new width result }
+{
+    let _cached = d.cached();
+    let first = once(d, q, s, width);
+    if !is_full(&first) {
+        return first;
+    }
+    let _freed = reclaim_to(alloc, d, q)?;
+    let second = once(d, q, s, width);
+    second
+}
+
+/// Applies a step as `step` of slice_quad does, and reclaims nodes to the vector or matrix: before the step where
+/// that is due after so many accepted gates, and where the store is full. Then the step is tried once more.
+///
+/// So `Full` comes only where the step's work functions alone need at least as many nodes as the limit. Where a
+/// reclaim was due, no other nodes are held afterwards than those of the work functions.
+pub fn upkept_step(
+    alloc: Global,
+    d: &mut Diagrams,
+    q: &mut SliceQuad,
+    s: &Step,
+    width: u8,
+    every: u32,
+    gates: u32,
+) -> Result<(), QuadStop>
+    requires stands { Stands d.old.store q.old }
+    requires on { IsStepOn (length d.old.store.order) s.now }
+    requires least { 2 ≤ width }
+    requires greatest { width ≤ 128 }
+    requires exponent { q.old.exponent + half_of s.now < 2 ^ 32 }
+    ensures settled { OnOk result (IsSettled d.new.store (stepped s.now (vector_in d.old.store q.old.four)) (q.old.exponent + half_of s.now) q.new.four q.new.exponent) }
+    ensures fits { OnOk result (FitsWidth width (stepped s.now (vector_in d.old.store q.old.four))) }
+    ensures narrow { OnOk result (length q.new.four.a ≤ width) }
+
+    // What a stop says.
+    ensures width { IfErr result (OnWidth (¬ FitsWidth width (stepped s.now (vector_in d.old.store q.old.four)))) }
+    ensures full { IfErr result (NeedsNodes d.old.store (work_in d.old.store s.now q.old)) }
+    ensures refused { OnErr result (q.new ≡ q.old) }
+
+    // What stays, and what is held.
+    ensures kept { q.new.kept ≡ q.old.kept }
+    ensures stands { Stands d.new.store q.new }
+    ensures keeps { KeepsQuad d.old q.old d.new }
+    ensures holds { is_due every gates ≡ true → OnOk result (HoldsOnly d.new.store (IsWork d.old.store s.now q.old)) }
+{
+    reclaim_due(alloc, d, q, every, gates)?;
+    let answer = tried(alloc, d, q, s, width);
+    answer
+}
