@@ -1,7 +1,6 @@
 -- What keeps a matrix, at its start and from step to step, and what is read of it.
 use Rattle.std.proofs.Common.{◌≡◌, ℕ, suc, ◌+◌, ◌*◌, ◌<◌, ◌≤◌, Bool, cond, List, [], ◌∷◌, ◌++◌, take, drop, length, All, refl, sym, ◌∙◌, ap, subst, arith}
 use Rattle.std.proofs.Math.Path.{ap₂}
-use mathlib.Core.Path.{fun_ext}
 use Rattle.std.specs.List.{range_with_len}
 use Rattle.std.proofs.lemmas.List.FromFn.{length-range_with_len}
 use Rattle.std.proofs.lemmas.List.{length-append}
@@ -19,8 +18,6 @@ use Rattle.comparison.proofs.Working.{work_matrix-last}
 use Rattle.diagram_model.specs.Functions.{Assignment, bit}
 use Rattle.diagram_model.specs.Stores.{Diagram, IsSound, function_of}
 use Rattle.diagram_ops.specs.Diagrams.{Shared, IsConsistent}
-use Rattle.diagram_ops.specs.Made.{Property}
-use Rattle.slice_vec.specs.Growing.{Grows}
 use Rattle.amp_dense.specs.Rules.{Settings, AreRules}
 use Rattle.slice_quad.specs.declared.kind.Step.{Step as SlicedStep}
 use Rattle.node_store.specs.declared.node.Node.{Node}
@@ -35,8 +32,6 @@ use Rattle.slice_quad.specs.Stepping.{stepped, half_of, IsStepOn}
 use Rattle.slice_quad.specs.Stops.{OnWidth}
 use Rattle.slice_quad.specs.Vectors.{vector_in, FitsWidth, Stands}
 use Rattle.slice_quad.specs.Walks.{entries_in}
-use Rattle.slice_quad.proofs.Onwards.{vector_on}
-use Rattle.slice_quad.proofs.StepCalls.{whole_of}
 use Rattle.slice_gates.specs.Shown.{ReadsBelow}
 use Rattle.slice_gates.specs.declared.side.Side.TheVariants.{Rows, Columns}
 use Rattle.slice_gates.specs.Sides.{woven, place_on}
@@ -46,6 +41,7 @@ use Rattle.slice_gates.proofs.Diagonal.{woven_diagonal}
 use Rattle.slice_gates.proofs.MatrixShown.{left_shown, right_shown, matrix_shown, matrix_fits, matrix_fits_from}
 use Rattle.slice_gates.proofs.Moved.{length-woven, take_front, drop_front}
 use Rattle.slice_gates.proofs.Shown.{few_halves}
+use Rattle.step_upkeep.specs.Upkept.{KeepsQuad}
 use Rattle.unitary_update.specs.declared.accepted.MatrixStep.{MatrixStep}
 use Rattle.unitary_update.specs.declared.accepted.MatrixStep.TheVariants.{Left, Right}
 use Rattle.unitary_update.specs.Kept.{State, IsKept, ShowsMatrix, step_in, sliced_step}
@@ -180,18 +176,13 @@ kept_stop s v h sound order limit stands shows kept = record {
   kept = kept;
 }
 
--- the entries stay where nodes are added
-pub shows_on : (n : ℕ) (u v : Shared) (Is : Property) (q : SliceQuad) (w : Scaled) → IsConsistent u → Grows u Is v → Stands u.store q → ShowsMatrix n u.store q w → ShowsMatrix n v.store q w
-shows_on n u v Is q w sound g stands h =
-    let whole = whole_of u.store q stands q.width_b q.width_c q.width_d in
-    let same : vector_in v.store q.four ≡ vector_in u.store q.four = vector_on u v Is (length q.four.a) q.four sound g whole in
-    record { exponent = h.exponent; entries = λ r c er ec. h.entries r c er ec ∙ ap (λ (f : Vector). f (bit (woven r c))) (sym same) }
+-- the entries stay where the diagrams keep them
+pub shows_on : (n : ℕ) (u v : Shared) (q : SliceQuad) (w : Scaled) → KeepsQuad u q v → ShowsMatrix n u.store q w → ShowsMatrix n v.store q w
+shows_on n u v q w g h = record { exponent = h.exponent; entries = λ r c er ec. h.entries r c er ec ∙ ap (λ (f : Vector). f (bit (woven r c))) (sym g.vector) }
 
 -- and so does the kept function
-pub keeps_on : (n : ℕ) (u v : Shared) (Is : Property) (q r : SliceQuad) → Grows u Is v → Stands u.store q → r.kept ≡ q.kept → KeepsRowEqualsColumn n u.store q → KeepsRowEqualsColumn n v.store r
-unfolding function_of
-keeps_on n u v Is q r g stands same h =
-    fun_ext (λ x. ap (λ (k : Node). function_of v.store k.0 x) same ∙ g.functions.same q.kept.0 stands.kept x) ∙ h
+pub keeps_on : (n : ℕ) (u v : Shared) (q r : SliceQuad) → KeepsQuad u q v → r.kept ≡ q.kept → KeepsRowEqualsColumn n u.store q → KeepsRowEqualsColumn n v.store r
+keeps_on n u v q r g same h = ap (λ (k : Node). function_of v.store k.0) same ∙ g.function ∙ h
 
 -- ---- what is read
 pub entry_is : (s : State) (r c x : List Bool) → IsKept s → length r ≡ s.qubits → length c ≡ s.qubits → x ≡ woven r c → entries_in s.diagrams.store s.quad.four x ≡ (work_matrix s.qubits s.steps).entries (r ++ c)

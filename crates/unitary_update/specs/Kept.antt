@@ -8,7 +8,8 @@ use Rattle.comparison.specs.Products.Step.{left, right}
 use Rattle.amp_dense.specs.declared.stop.Stop.{Stop}
 use Rattle.amp_dense.specs.declared.stop.Stop.TheVariants.{Width, Nodes, OutOfMemory}
 use Rattle.amp_dense.specs.Rules.{Settings}
-use Rattle.diagram_model.specs.Stores.{Diagram, held}
+use Rattle.diagram_model.specs.Size.{size}
+use Rattle.diagram_model.specs.Stores.{Diagram}
 use Rattle.diagram_ops.specs.Diagrams.{Shared, IsConsistent}
 use Rattle.slice_quad.specs.declared.kind.Step.{Step as SlicedStep}
 use Rattle.slice_quad.specs.declared.quad.SliceQuad.{SliceQuad}
@@ -17,6 +18,7 @@ use Rattle.slice_quad.specs.Vectors.{Stands}
 use Rattle.slice_gates.specs.declared.side.Side.TheVariants.{Rows, Columns}
 use Rattle.slice_gates.specs.Shown.{IsMatrixShown}
 use Rattle.slice_gates.specs.Stepped.{step_for}
+use Rattle.step_upkeep.specs.Upkept.{work_in}
 use Rattle.unitary_update.specs.declared.accepted.MatrixStep.{MatrixStep}
 use Rattle.unitary_update.specs.declared.accepted.MatrixStep.TheVariants.{Left, Right}
 
@@ -65,11 +67,6 @@ StartStopMeans n rules (Width number) = ⊥
 StartStopMeans n rules (Nodes number order full) = (number ≡ 0) × (order ≡ range_with_len 0 (2 * n)) × (full ≡ rules.nodes) × (rules.nodes < 3 * n)
 StartStopMeans n rules OutOfMemory = Unit {0}
 
--- where there were too few nodes, the diagrams hold as many as the limit lets them
-abbrev pub IsFull : Diagram → Stop → Type 0
-IsFull d (Nodes number order full) = held d ≡ d.limit
-IsFull d _ = Unit {0}
-
 -- the number of qubits, the rules, the steps accepted so far, and the diagrams with the integers
 pub record State : Type 0 where
   pub qubits : ℕ
@@ -77,6 +74,11 @@ pub record State : Type 0 where
   pub steps : List Step
   pub diagrams : Shared
   pub quad : SliceQuad
+
+-- where there were too few nodes for a step on the matrix: its work functions alone need as many as the rules let be held
+abbrev pub NeedsNodes : State → Step → Stop → Type 0
+NeedsNodes m t (Nodes number order full) = m.rules.nodes ≤ size (length order) order (work_in m.diagrams.store (sliced_step m.qubits t) m.quad)
+NeedsNodes m t _ = Unit {0}
 
 -- what the matrix stands by
 abbrev pub standing_of : State → Standing

@@ -18,7 +18,8 @@ use std::marker::Model;
 /// variable 2q + 1 the column's.
 ///
 /// A step takes the time of its connectives: what it costs depends on how many functions the bits of the matrix
-/// share, not on the number of entries. Nodes that are no longer wanted stay held.
+/// share, not on the number of entries. Nodes that are no longer wanted are freed where the rules say so, and where a
+/// step wants their place.
 #[derive(Drop)]
 pub struct SlicedMatrix {
     qubits: u8,
@@ -39,13 +40,20 @@ impl Model for SlicedMatrix {
     ghost invariant = { λ m. IsKept (record { qubits = m.qubits; rules = m.rules; steps = map step_in m.steps.items; diagrams = m.diagrams; quad = m.quad }) };
 }
 
+/// After how many steps nodes are reclaimed, where 0 is never.
+fn steps_between(rules: &Rules) -> u32
+    ensures { result ≡ rules.now.reclaim }
+{
+    rules.reclaim
+}
+
 impl SlicedMatrix {
     ghost use Rattle.gate_set.specs.Shape.{IsOn};
     ghost use Rattle.slice_quad.specs.RowsColumns.{KeepsRowEqualsColumn};
     ghost use Rattle.slice_quad.specs.Vectors.{Stands};
     ghost use Rattle.comparison.specs.Products.{gate_of, work_matrix};
     ghost use Rattle.comparison.specs.Products.Step.{left, right};
-    ghost use Rattle.unitary_update.specs.Kept.{standing_of, step_in, begun, Accepts, StopMeans, StartStopMeans, IsFull, ShowsMatrix};
+    ghost use Rattle.unitary_update.specs.Kept.{standing_of, step_in, begun, Accepts, StopMeans, StartStopMeans, NeedsNodes, ShowsMatrix};
 
     /// The identity, with no step accepted yet.
     ///
@@ -77,8 +85,8 @@ impl SlicedMatrix {
 
     /// Multiplies by the gate's matrix from the left: the matrix M becomes G·M, halved.
     ///
-    /// `Width` comes only where a coefficient of the product is wider than the rules let it be, and `Nodes` where the
-    /// diagrams have as many nodes as the rules let them. A stop numbers this step among the left and right ones
+    /// `Width` comes only where a coefficient of the product is wider than the rules let it be, and `Nodes` only where
+    /// the step's work functions alone need at least as many nodes as the rules let it have. A stop numbers this step among the left and right ones
     /// together, from 1, and leaves the matrix as it was.
     pub fn left(&mut self, alloc: Global, gate: &Gate) -> Result<(), Stop>
         requires within { IsOn self.old.qubits gate.now }
@@ -86,10 +94,10 @@ impl SlicedMatrix {
         ensures accepts { OnOk result (Accepts (standing_of self.old) (left gate.now) (standing_of self.new)) }
         ensures stops { IfErr result (StopMeans (standing_of self.old) (left gate.now)) }
         ensures refused { OnErr result (standing_of self.new ≡ standing_of self.old) }
-        ensures full { IfErr result (IsFull self.new.diagrams.store) }
+        ensures needs { IfErr result (NeedsNodes self.old (left gate.now)) }
     {
         let factor = Gate::new(alloc, gate.kind(), gate.on());
-        self.accept(MatrixStep::Left(factor))
+        self.accept(alloc, MatrixStep::Left(factor))
     }
 
     /// Multiplies by the gate's matrix from the right: the matrix M becomes M·G, halved. Stops are those of `left`.
@@ -99,38 +107,42 @@ impl SlicedMatrix {
         ensures accepts { OnOk result (Accepts (standing_of self.old) (right gate.now) (standing_of self.new)) }
         ensures stops { IfErr result (StopMeans (standing_of self.old) (right gate.now)) }
         ensures refused { OnErr result (standing_of self.new ≡ standing_of self.old) }
-        ensures full { IfErr result (IsFull self.new.diagrams.store) }
+        ensures needs { IfErr result (NeedsNodes self.old (right gate.now)) }
     {
         let factor = Gate::new(alloc, gate.kind(), gate.on());
-        self.accept(MatrixStep::Right(factor))
+        self.accept(alloc, MatrixStep::Right(factor))
     }
 
     /// Makes a step.
-    fn accept(&mut self, factor: MatrixStep) -> Result<(), Stop>
+    fn accept(&mut self, alloc: Global, factor: MatrixStep) -> Result<(), Stop>
         requires within { IsOn self.old.qubits (gate_of (step_in factor)) }
         requires few { length self.old.steps < 2000000 }
         ensures accepts { OnOk result (Accepts (standing_of self.old) (step_in factor) (standing_of self.new)) }
         ensures stops { IfErr result (StopMeans (standing_of self.old) (step_in factor)) }
         ensures refused { OnErr result (standing_of self.new ≡ standing_of self.old) }
-        ensures full { IfErr result (IsFull self.new.diagrams.store) }
+        ensures needs { IfErr result (NeedsNodes self.old (step_in factor)) }
     {
-        let number = self.accepted() + 1;
+        let accepted = self.accepted();
         self.steps.reserve(1)?;
         let width = self.rules.width();
+        let every = steps_between(&self.rules);
         match multiply(
+            alloc,
             &mut self.diagrams,
             &mut self.quad,
             &factor,
             self.qubits,
             width,
+            every,
+            accepted,
         ) {
             Ok(()) => {
                 self.steps.push_reserved(factor);
                 Ok(())
             }
-            Err(QuadStop::Width) => Err(Stop::Width { gate: number }),
+            Err(QuadStop::Width) => Err(Stop::Width { gate: accepted + 1 }),
             Err(QuadStop::Full { held }) => Err(Stop::Nodes {
-                gate: number,
+                gate: accepted + 1,
                 order: self.diagrams.store().order(),
                 held,
             }),
