@@ -1,13 +1,14 @@
 -- A gate that fits is accepted, or needs too many nodes.
-use Rattle.std.proofs.Common.{◌≡◌, ◌⊎◌, ℕ, zero, suc, ◌+◌, ◌-◌, ◌^◌, ◌≤◌, ℤ, pos, ◌+ℤ◌, Bool, List, [], ◌∷◌, ◌++◌, length, inl, inr, refl, sym, ◌∙◌, ap, subst, arith}
+use Rattle.std.proofs.Common.{◌≡◌, ◌⊎◌, ℕ, zero, suc, ◌+◌, ◌-◌, ◌^◌, ◌≤◌, ℤ, pos, ◌+ℤ◌, Bool, true, false, cond, List, [], ◌∷◌, ◌++◌, length, inl, inr, refl, sym, ◌∙◌, ap, subst, arith}
 use Rattle.std.specs.Prelude.{◌≤ℤ◌, ◌<ℤ◌, neg_ℤ}
 use Rattle.std.proofs.lemmas.Int.{ints}
 use mathlib.Core.Path.{fun_ext}
 use Rattle.ring_omega.specs.declared.quad.Quad.{Quad}
+use Rattle.ring_omega.specs.Ring.{one_quad, zero_quad}
 use Rattle.bit_lists.specs.Orders.{AreVars}
 use Rattle.gate_set.specs.declared.gate.Gate.{Gate}
 use Rattle.gate_set.specs.Shape.{IsOn}
-use Rattle.circuit_model.specs.Product.{applied}
+use Rattle.circuit_model.specs.Product.{applied, same_bits}
 use Rattle.circuit_model.specs.Working.{Scaled, IsHalved, IntFits, QuadFits, FitsWidth, raw, step, work}
 use Rattle.circuit_model.proofs.WorkingLemmas.{IsHalved-halved, work-last}
 use Rattle.diagram_model.specs.Bryant.{IsOneOf}
@@ -15,10 +16,12 @@ use Rattle.diagram_model.specs.Functions.{Assignment, Function}
 use Rattle.diagram_model.specs.Size.{size}
 use Rattle.diagram_model.proofs.Prefixes.{prefix_self}
 use Rattle.diagram_ops.specs.Made.{IsPrefixOfSome}
-use Rattle.amp_dense.specs.Standing.{Standing, Fits, vector, with_gate}
+use Rattle.amp_dense.specs.Rules.{Settings}
+use Rattle.amp_dense.specs.Standing.{Standing, Fits, vector, begun, with_gate}
 use Rattle.node_reclaim.proofs.Bound.{size-le}
 use Rattle.slice_vec.specs.Slices.{first_bits}
 use Rattle.slice_vec.proofs.Bits.{lt_or_le}
+use Rattle.slice_vec.proofs.DigitLemmas.{twice}
 use Rattle.slice_vec.proofs.Growing.{some_first}
 use Rattle.slice_quad.specs.declared.coord.Coord.{Coord}
 use Rattle.slice_quad.specs.declared.coord.Coord.TheVariants.{A, B, C, D}
@@ -154,3 +157,37 @@ fits_next s g fits = subst (λ (w : Scaled). FitsWidth n s.rules.width w.entries
     at x len =
         let q = (step n (vector s) g).entries x in
         halved_fits s.rules.width h.times (applied g (vector s).entries x) q (h.taken_out x len ∙ times_power-two h.times q) (fits x len)
+
+-- and at the start
+one_power : (k : ℕ) → 1 ≤ 2 ^ k
+one_power zero = omega arith
+one_power (suc k) = let before = one_power k in omega (arith, before, twice k 1)
+
+two_power : (w : ℕ) → 2 ≤ w → 2 ≤ 2 ^ (w - 1)
+two_power zero wide = absurd (omega (arith, wide))
+two_power (suc zero) wide = absurd (omega (arith, wide))
+two_power (suc (suc k)) wide =
+    let some = one_power k in
+    let big : 2 ≤ 2 ^ suc k = omega (arith, some, twice k 1) in
+    let e : suc k ≡ suc (suc k) - 1 = omega arith in
+    subst (λ (j : ℕ). 2 ≤ 2 ^ j) e big
+
+zero_small : (p : ℕ) → 2 ≤ p → (neg_ℤ (pos p) ≤ℤ pos 0) × (pos 0 <ℤ pos p)
+zero_small p two = (omega (arith, ints, two), omega (arith, ints, two))
+
+one_small : (p : ℕ) → 2 ≤ p → (neg_ℤ (pos p) ≤ℤ pos 1) × (pos 1 <ℤ pos p)
+one_small p two = (omega (arith, ints, two), omega (arith, ints, two))
+
+pub fits_begun : (input : List Bool) (rules : Settings) → 2 ≤ rules.width → FitsWidth (length input) rules.width (vector (begun input rules)).entries
+unfolding work
+fits_begun input rules wide x len = by_test (same_bits x input)
+  where
+    none : IntFits rules.width (pos 0)
+    none = zero_small (2 ^ (rules.width - 1)) (two_power rules.width wide)
+
+    one : IntFits rules.width (pos 1)
+    one = one_small (2 ^ (rules.width - 1)) (two_power rules.width wide)
+
+    by_test : (b : Bool) → QuadFits rules.width (cond b one_quad zero_quad)
+    by_test true = record { a_fits = none; b_fits = none; c_fits = none; d_fits = one }
+    by_test false = record { a_fits = none; b_fits = none; c_fits = none; d_fits = none }

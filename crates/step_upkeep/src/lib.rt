@@ -8,3 +8,6 @@ mod upkeep;
 pub use gate::upkept_gate;
 pub use stepping::upkept_step;
 pub use upkeep::{is_due, reclaim_to};
+
+#[cfg(test)]
+mod tests;
