@@ -1,5 +1,5 @@
 -- How `prob` ends, exit by exit, and that it has one end.
-use Rattle.std.proofs.Common.{◌≡◌, ◌⊎◌, inl, inr, ℕ, ◌<◌, ◌^◌, pos, ◌≤ℤ◌, ◌<ℤ◌, ℤ, List, Bool, Option, Ok, refl, ◌∙◌, subst, ap, arith}
+use Rattle.std.proofs.Common.{◌≡◌, ◌⊎◌, inl, inr, ℕ, ◌^◌, pos, ◌≤ℤ◌, ◌<ℤ◌, ℤ, List, Bool, Option, Ok, refl, ◌∙◌, subst, ap, arith}
 use Rattle.std.proofs.lemmas.Int.{ints}
 use Rattle.gate_set.specs.Circuits.{Circuit}
 use Rattle.ring_omega.specs.declared.quad.Quad.{Quad}
@@ -8,13 +8,14 @@ use Rattle.outside.specs.Bytes.{Added, AddedSome}
 use Rattle.phases.specs.Phases.{HandsOn, StopsWhere, HasOneEnd, HasSomeEnd}
 use Rattle.phases.proofs.Ends.{one_hands_on, one_stops_where, one_after, some_hands_on, some_stops_where, some_after}
 use Rattle.amp_dense.specs.Rules.{Settings}
-use Rattle.amp_dense.specs.Standing.{Standing, begun, vector, dense_policy}
+use Rattle.amp_dense.specs.Standing.{Standing, begun, vector}
 use Rattle.amp_dense.proofs.Walking.{walked}
+use Rattle.state_update.specs.Kept.{sliced_policy}
 use Rattle.probabilities.specs.Outcomes.{counted}
 use Rattle.probabilities.specs.Weighing.{total_weight, IsNarrow}
 use Rattle.sliq_engine.specs.declared.output.SendStop.{SendStop}
 use Rattle.sliq_engine.specs.declared.cause.Cause.{Cause}
-use Rattle.sliq_engine.specs.declared.cause.Cause.TheVariants.{Done, Unbuilt, WeightTooWide}
+use Rattle.sliq_engine.specs.declared.cause.Cause.TheVariants.{Done, WeightTooWide}
 use Rattle.sliq_engine.specs.Steps.{Reads, zeros, Simulates}
 use Rattle.sliq_engine.specs.Prob.{outcomes_output, prob_output, IsHeavy, Weighs}
 use Rattle.sliq_engine.specs.Ending.{MayEnd, MayStopBy}
@@ -24,7 +25,8 @@ use Rattle.ring_omega.specs.declared.weight.Weight.{Weight}
 use Rattle.sliq_engine.specs.Private.{cause_of_sending, cause_of_weighing}
 use Rattle.sliq_engine.specs.Laws.{IsNoFault, IsSure}
 use Rattle.sliq_engine.proofs.Endings.{ends_first, ends_after, ends_sending}
-use Rattle.sliq_engine.proofs.StepLemmas.{one_reads, some_reads, one_dense_walk, some_dense_walk, some_built}
+use Rattle.sliq_engine.proofs.StepLemmas.{one_reads, some_reads}
+use Rattle.sliq_engine.proofs.SlicedWalks.{one_simulates, some_simulates}
 
 two_sides : (z : ℤ) → (pos (2 ^ 127) ≤ℤ z) ⊎ (z <ℤ pos (2 ^ 127))
 two_sides z = grind (arith, ints)
@@ -54,18 +56,16 @@ heavy_stop n v w total weighs.OutOfMemory wide = tt
 pub one_weighs : (rules : Settings) (text : List ℕ) → HasOneEnd IsSure (Weighs rules text)
 one_weighs rules text =
     one_after IsSure _ _ (one_reads 1 text)
-    (λ c. one_after IsSure _ _ (one_stops_where IsSure (12 < c.qubits) (Unbuilt 1))
-    (λ _. one_after IsSure _ _ (one_dense_walk rules (zeros c.qubits) c.gates)
+    (λ c. one_after IsSure _ _ (one_simulates rules (zeros c.qubits) c.gates)
     (λ _. one_after IsSure _ _ (one_stops_where IsSure (IsHeavy c.qubits (work c.gates (zeros c.qubits)).entries) WeightTooWide)
-    (λ _. one_hands_on IsSure _))))
+    (λ _. one_hands_on IsSure _)))
 
 pub some_weighs : (rules : Settings) (text : List ℕ) → HasSomeEnd IsNoFault (Weighs rules text)
 some_weighs rules text =
     some_after IsNoFault _ _ (some_reads 1 text)
-    (λ c. some_after IsNoFault _ _ (some_built 12 c.qubits 1)
-    (λ _. some_after IsNoFault _ _ (some_dense_walk rules (zeros c.qubits) c.gates)
+    (λ c. some_after IsNoFault _ _ (some_simulates rules (zeros c.qubits) c.gates)
     (λ _. some_after IsNoFault _ _ (some_stops_where IsNoFault (IsHeavy c.qubits (work c.gates (zeros c.qubits)).entries) WeightTooWide tt (heavy_or_not (total_weight c.qubits (work c.gates (zeros c.qubits)).entries).a))
-    (λ _. some_hands_on IsNoFault _))))
+    (λ _. some_hands_on IsNoFault _)))
 
 module _ (rules : Settings) (text : List ℕ) where
   -- the text is refused
@@ -73,57 +73,49 @@ module _ (rules : Settings) (text : List ℕ) where
   prob_refused cause out h = ends_first (Reads 1 text) _ cause out h
 
   module _ (c : Circuit) (reads : Reads 1 text (Ok c)) where
-    -- it has too many qubits
-    pub prob_unbuilt : (cause : Cause) (out : Option (List ℕ)) → MayStopBy (StopsWhere (12 < c.qubits) (Unbuilt 1)) cause → MayEnd (Weighs rules text) cause out out
-    prob_unbuilt cause out h = ends_after (Reads 1 text) _ c cause out out reads (ends_first (StopsWhere (12 < c.qubits) (Unbuilt 1)) _ cause out h)
+    -- it stops at a gate
+    pub prob_halts : (cause : Cause) (out : Option (List ℕ)) → MayStopBy (Simulates sliced_policy rules (zeros c.qubits) c.gates) cause → MayEnd (Weighs rules text) cause out out
+    prob_halts cause out h =
+        ends_after (Reads 1 text) _ c cause out out reads
+        (ends_first (Simulates sliced_policy rules (zeros c.qubits) c.gates) _ cause out h)
 
-    module _ (built : ¬ (12 < c.qubits)) where
-      -- it stops at a gate
-      pub prob_halts : (cause : Cause) (out : Option (List ℕ)) → MayStopBy (Simulates dense_policy rules (zeros c.qubits) c.gates) cause → MayEnd (Weighs rules text) cause out out
-      prob_halts cause out h =
+    module _ (t : Standing) (simulates : Simulates sliced_policy rules (zeros c.qubits) c.gates (Ok t)) (m : ℕ) (size : m ≡ c.qubits) where
+      -- the vector at the end is that of the circuit's gates
+      pub whole : vector t ≡ work c.gates (zeros c.qubits)
+      whole = let by = walked sliced_policy (begun (zeros c.qubits) rules) c.gates t simulates in worked t by.accepted by.input
+        where
+          worked : (s : Standing) → s.gates ≡ c.gates → s.input ≡ zeros c.qubits → vector s ≡ work c.gates (zeros c.qubits)
+          worked s g i = ap (λ l. work l s.input) g ∙ ap (work c.gates) i
+
+      ended : (cause : Cause) (old new : Option (List ℕ)) → MayEnd (HandsOn (record { cause = Done; bytes = prob_output c })) cause old new
+          → ¬ (IsHeavy m (vector t).entries) → MayEnd (Weighs rules text) cause old new
+      ended cause old new h light =
+          ends_after (Reads 1 text) _ c cause old new reads
+          (ends_after (Simulates sliced_policy rules (zeros c.qubits) c.gates) _ t cause old new simulates
+          (ends_after (StopsWhere (IsHeavy c.qubits (work c.gates (zeros c.qubits)).entries) WeightTooWide) _ tt cause old new (still light) h))
+        where
+          still : ¬ (IsHeavy m (vector t).entries) → ¬ (IsHeavy c.qubits (work c.gates (zeros c.qubits)).entries)
+          still l = subst (λ k. ¬ (IsHeavy k (work c.gates (zeros c.qubits)).entries)) size (subst (λ (w : Scaled). ¬ (IsHeavy m w.entries)) whole l)
+
+      -- all states weigh too much
+      pub prob_too_heavy : (cause : Cause) (out : Option (List ℕ)) → MayStopBy (StopsWhere (IsHeavy m (vector t).entries) WeightTooWide) cause → MayEnd (Weighs rules text) cause out out
+      prob_too_heavy cause out h =
           ends_after (Reads 1 text) _ c cause out out reads
-          (ends_after (StopsWhere (12 < c.qubits) (Unbuilt 1)) _ tt cause out out built
-          (ends_first (Simulates dense_policy rules (zeros c.qubits) c.gates) _ cause out h))
+          (ends_after (Simulates sliced_policy rules (zeros c.qubits) c.gates) _ t cause out out simulates
+          (ends_first (StopsWhere (IsHeavy c.qubits (work c.gates (zeros c.qubits)).entries) WeightTooWide) _ cause out
+          (subst (λ k. MayStopBy (StopsWhere (IsHeavy k (work c.gates (zeros c.qubits)).entries) WeightTooWide) cause) size
+          (subst (λ (w : Scaled). MayStopBy (StopsWhere (IsHeavy m w.entries) WeightTooWide) cause) whole h))))
 
-      module _ (t : Standing) (simulates : Simulates dense_policy rules (zeros c.qubits) c.gates (Ok t)) (m : ℕ) (size : m ≡ c.qubits) where
-        -- the vector at the end is that of the circuit's gates
-        pub whole : vector t ≡ work c.gates (zeros c.qubits)
-        whole = let by = walked dense_policy (begun (zeros c.qubits) rules) c.gates t simulates in worked t by.accepted by.input
-          where
-            worked : (s : Standing) → s.gates ≡ c.gates → s.input ≡ zeros c.qubits → vector s ≡ work c.gates (zeros c.qubits)
-            worked s g i = ap (λ l. work l s.input) g ∙ ap (work c.gates) i
+      module _ (light : ¬ (IsHeavy m (vector t).entries)) (flags : List Bool) (measured : flags ≡ counted c.measured) where
+        bytes : outcomes_output flags (vector t) ≡ prob_output c
+        bytes = ap (λ l. outcomes_output l (vector t)) measured ∙ ap (outcomes_output (counted c.measured)) whole
 
-        ended : (cause : Cause) (old new : Option (List ℕ)) → MayEnd (HandsOn (record { cause = Done; bytes = prob_output c })) cause old new
-            → ¬ (IsHeavy m (vector t).entries) → MayEnd (Weighs rules text) cause old new
-        ended cause old new h light =
-            ends_after (Reads 1 text) _ c cause old new reads
-            (ends_after (StopsWhere (12 < c.qubits) (Unbuilt 1)) _ tt cause old new built
-            (ends_after (Simulates dense_policy rules (zeros c.qubits) c.gates) _ t cause old new simulates
-            (ends_after (StopsWhere (IsHeavy c.qubits (work c.gates (zeros c.qubits)).entries) WeightTooWide) _ tt cause old new (still light) h)))
-          where
-            still : ¬ (IsHeavy m (vector t).entries) → ¬ (IsHeavy c.qubits (work c.gates (zeros c.qubits)).entries)
-            still l = subst (λ k. ¬ (IsHeavy k (work c.gates (zeros c.qubits)).entries)) size (subst (λ (w : Scaled). ¬ (IsHeavy m w.entries)) whole l)
+        -- it stops while the output is sent
+        pub prob_stops : (stop : SendStop) (old new : Option (List ℕ)) → AddedSome old new (outcomes_output flags (vector t)) → MayEnd (Weighs rules text) (cause_of_sending stop) old new
+        prob_stops stop old new some =
+            ended (cause_of_sending stop) old new
+            (ends_sending (record { cause = Done; bytes = prob_output c }) stop old new (subst (AddedSome old new) bytes some)) light
 
-        -- all states weigh too much
-        pub prob_too_heavy : (cause : Cause) (out : Option (List ℕ)) → MayStopBy (StopsWhere (IsHeavy m (vector t).entries) WeightTooWide) cause → MayEnd (Weighs rules text) cause out out
-        prob_too_heavy cause out h =
-            ends_after (Reads 1 text) _ c cause out out reads
-            (ends_after (StopsWhere (12 < c.qubits) (Unbuilt 1)) _ tt cause out out built
-            (ends_after (Simulates dense_policy rules (zeros c.qubits) c.gates) _ t cause out out simulates
-            (ends_first (StopsWhere (IsHeavy c.qubits (work c.gates (zeros c.qubits)).entries) WeightTooWide) _ cause out
-            (subst (λ k. MayStopBy (StopsWhere (IsHeavy k (work c.gates (zeros c.qubits)).entries) WeightTooWide) cause) size
-            (subst (λ (w : Scaled). MayStopBy (StopsWhere (IsHeavy m w.entries) WeightTooWide) cause) whole h)))))
-
-        module _ (light : ¬ (IsHeavy m (vector t).entries)) (flags : List Bool) (measured : flags ≡ counted c.measured) where
-          bytes : outcomes_output flags (vector t) ≡ prob_output c
-          bytes = ap (λ l. outcomes_output l (vector t)) measured ∙ ap (outcomes_output (counted c.measured)) whole
-
-          -- it stops while the output is sent
-          pub prob_stops : (stop : SendStop) (old new : Option (List ℕ)) → AddedSome old new (outcomes_output flags (vector t)) → MayEnd (Weighs rules text) (cause_of_sending stop) old new
-          prob_stops stop old new some =
-              ended (cause_of_sending stop) old new
-              (ends_sending (record { cause = Done; bytes = prob_output c }) stop old new (subst (AddedSome old new) bytes some)) light
-
-          -- the output is written
-          pub prob_ends : (old new : Option (List ℕ)) → Added old new (outcomes_output flags (vector t)) → MayEnd (Weighs rules text) Done old new
-          prob_ends old new all = ended Done old new (prob_output c, refl, subst (Added old new) bytes all) light
+        -- the output is written
+        pub prob_ends : (old new : Option (List ℕ)) → Added old new (outcomes_output flags (vector t)) → MayEnd (Weighs rules text) Done old new
+        prob_ends old new all = ended Done old new (prob_output c, refl, subst (Added old new) bytes all) light

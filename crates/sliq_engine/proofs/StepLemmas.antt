@@ -4,12 +4,11 @@ use Rattle.std.proofs.Math.Path.{ap₂}
 use Rattle.std.proofs.lemmas.Bool.{cases_lt, cases_eq}
 use Rattle.gate_set.specs.declared.gate.Gate.{Gate}
 use Rattle.phases.specs.Phases.{HasOneEnd, HasSomeEnd, StopsWhere}
-use Rattle.phases.proofs.Ends.{one_told, some_told, one_stops_where, some_stops_where}
+use Rattle.phases.proofs.Ends.{one_stops_where, some_stops_where}
 use Rattle.amp_dense.specs.Rules.{Settings}
 use Rattle.amp_dense.specs.declared.stop.Stop.{Stop}
 use Rattle.amp_dense.specs.declared.stop.Stop.TheVariants as stops
-use Rattle.amp_dense.specs.Standing.{Policy, begun, Walks, MayStop, dense_policy}
-use Rattle.amp_dense.proofs.Walking.{one_dense, some_dense}
+use Rattle.amp_dense.specs.Standing.{Policy, begun, Walks, MayStop}
 use Rattle.qasm_reader.specs.declared.reason.Why.{Why}
 use Rattle.qasm_reader.specs.declared.reason.Refusal.{Refusal}
 use Rattle.qasm_reader.specs.Reading.{Reading, ReadsAs, circuit, refusal}
@@ -39,15 +38,6 @@ some_reads file text = let r = every_reading 64 text in by r.0 r.1
     by : (reading : Reading) → ReadsAs text 64 reading → HasSomeEnd IsNoFault (Reads file text)
     by (circuit c) h = (Ok c, h, tt)
     by (refusal n why) h = let r : Refusal = record { statement = n; why = why } in (Err (Refused file r), (r, h, refl), tt)
-
--- gates come to one end
-pub one_dense_walk : (rules : Settings) (input : List Bool) (gates : List Gate) → HasOneEnd IsSure (Simulates dense_policy rules input gates)
-one_dense_walk rules input gates = one_told IsSure cause_of (Walks dense_policy (begun input rules) gates) (one_dense (λ stop. IsSure (cause_of stop)) (begun input rules) gates)
-
--- and to some end
-pub some_dense_walk : (rules : Settings) (input : List Bool) (gates : List Gate) → HasSomeEnd IsNoFault (Simulates dense_policy rules input gates)
-some_dense_walk rules input gates =
-    some_told IsNoFault cause_of (Walks dense_policy (begun input rules) gates) (some_dense (λ stop. IsNoFault (cause_of stop)) (λ number. tt) (begun input rules) gates)
 
 -- the stop of a walk, as it is told
 pub simulation_stops : (policy : Policy) (rules : Settings) (input : List Bool) (gates : List Gate) (stop : Stop) → MayStop (Walks policy (begun input rules) gates) stop

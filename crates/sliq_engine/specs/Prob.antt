@@ -1,19 +1,19 @@
 -- `prob`.
-use Rattle.std.specs.Prelude.{ℕ, ◌<◌, ◌^◌, pos, ◌≤ℤ◌, Bool, List, ◌++◌}
+use Rattle.std.specs.Prelude.{ℕ, ◌^◌, pos, ◌≤ℤ◌, Bool, List, ◌++◌}
 use Rattle.ring_omega.specs.declared.quad.Quad.{Quad}
 use Rattle.ring_omega.specs.declared.weight.Weight.{Weight}
 use Rattle.ring_omega.specs.Weights.{lowest_weight_form}
 use Rattle.gate_set.specs.Circuits.{Circuit}
 use Rattle.circuit_model.specs.Working.{Scaled, work}
 use Rattle.amp_dense.specs.Rules.{Settings}
-use Rattle.amp_dense.specs.Standing.{dense_policy}
+use Rattle.state_update.specs.Kept.{sliced_policy}
 use Rattle.amp_printer.specs.declared.counted.Counted.TheVariants.{Measured, Outcomes}
 use Rattle.amp_printer.specs.Texts.{weight_line, count_line}
 use Rattle.probabilities.specs.Weighing.{total_weight}
 use Rattle.probabilities.specs.Outcomes.{counted, measured_count, outcome_weight, is_zero_weight}
 use Rattle.phases.specs.Phases.{Phase, ◌>>=◌, ◌>>◌, StopsWhere}
 use Rattle.sliq_engine.specs.declared.cause.Cause.{Cause}
-use Rattle.sliq_engine.specs.declared.cause.Cause.TheVariants.{Done, Unbuilt, WeightTooWide}
+use Rattle.sliq_engine.specs.declared.cause.Cause.TheVariants.{Done, WeightTooWide}
 use Rattle.sliq_engine.specs.Listing.{listing_of, number_listed}
 use Rattle.sliq_engine.specs.Steps.{Reads, zeros, Simulates, Output, Writes}
 
@@ -46,7 +46,6 @@ IsHeavy n v = pos (2 ^ 127) ≤ℤ (total_weight n v).a
 abbrev pub Weighs : Settings → List ℕ → Phase Output Cause
 Weighs rules text = do
   c ← Reads 1 text
-  StopsWhere (12 < c.qubits) (Unbuilt 1)
-  Simulates dense_policy rules (zeros c.qubits) c.gates
+  Simulates sliced_policy rules (zeros c.qubits) c.gates
   StopsWhere (IsHeavy c.qubits (work c.gates (zeros c.qubits)).entries) WeightTooWide
   Writes Done (prob_output c)

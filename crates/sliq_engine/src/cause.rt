@@ -24,7 +24,7 @@ pub enum Cause {
     TooLong { file: u8 },
     /// This file's text is refused.
     Refused { file: u8, refusal: Refusal },
-    /// This file's circuit has more qubits than the engine is built for yet: 12 where outcomes are weighed, 6 where circuits are compared.
+    /// This file's circuit has more qubits than comparisons are built for yet: 6.
     Unbuilt { file: u8 },
     /// The numbers of qubits of two circuits differ, or those of a circuit and of its input.
     QubitsDiffer { first: u8, second: u8 },

@@ -10,11 +10,12 @@ ghost use Rattle.sliq_engine.specs.Ending.{MayEnd, MayStopBy};
 use crate::cause::Cause;
 use crate::outcomes::send_outcomes;
 use crate::reading::read_circuit;
-use crate::simulation::{check_built, simulated, zeros_of};
-use amp_dense::{Amplitudes, DenseState, Rules};
+use crate::simulation::{simulated, zeros_of};
+use amp_dense::Rules;
 use bit_lists::Partial;
 use outside::Sink;
 use probabilities::{Weigh, counted};
+use state_update::SlicedState;
 use std::alloc::Global;
 
 /// Carries out `prob` on the text of its file. Nothing is written before the last gate was applied and all states were weighed.
@@ -26,9 +27,8 @@ pub fn prob<K: Sink>(alloc: Global, out: &mut K, text: &[u8], rules: &Rules) -> 
     ensures counts { K.faults out.old ≤ K.faults out.new }
 {
     let circuit = read_circuit(alloc, 1, text)?;
-    check_built(&circuit, DenseState::MOST, 1)?;
     let input = zeros_of(&circuit);
-    let state = simulated::<DenseState>(alloc, &input, &circuit, rules)?;
+    let state = simulated::<SlicedState>(alloc, &input, &circuit, rules)?;
     check_weight(alloc, circuit.qubits(), &state)?;
     let measured = counted(circuit.measured());
     send_outcomes(alloc, out, &measured, &state)?;

@@ -118,24 +118,18 @@ fn weight_too_wide(rt: HostRuntime) -> Result<(), OutOfMemory> {
 fn what_comes_before_weights(rt: HostRuntime) -> Result<(), OutOfMemory> {
     let head = b"OPENQASM 2.0;\nqreg q[1];\n".as_slice();
     let too_wide = repeated(rt.alloc(), head, b"h q[0];t q[0];\n", 504, b"h q[0];\n")?;
-    let rows: [(&[u8], Cause, &[u8]); 2] = [
-        (
-            b"OPENQASM 2.0;\nqreg q[13];\n",
-            Cause::Unbuilt { file: 1 },
-            b"sliq: file 1 not built yet\n",
-        ),
-        (
-            &too_wide,
-            Cause::Width { step: 1009 },
-            b"sliq: width limit at step 1009\n",
-        ),
-    ];
-    for (text, cause, lines) in rows {
-        let ran = run_on(rt.alloc(), &["sliq", "prob", "a"], text, CALM)?;
-        assert!(rt; alike(&ran.ended.cause, &cause));
-        assert_eq!(rt; ran.out.written(), b"".as_slice());
-        assert_eq!(rt; ran.err.written(), lines);
-    }
+    let ran = run_on(
+        rt.alloc(),
+        &["sliq", "prob", "--width", "16", "a"],
+        &too_wide,
+        CALM,
+    )?;
+    assert!(rt; ended_by(&ran, 5, &Cause::Width { step: 113 }));
+    assert_eq!(rt; ran.out.written(), b"".as_slice());
+    assert_eq!(rt;
+        ran.err.written(),
+        b"sliq: width limit at step 113\n".as_slice()
+    );
     for words in [["sliq", "prob", "-a"], ["sliq", "probe", "a"]] {
         let ran = run_on(rt.alloc(), &words, COIN, CALM)?;
         assert!(rt; ended_by(&ran, 2, &Cause::BadWords));
@@ -201,5 +195,31 @@ fn options_of_prob(rt: HostRuntime) -> Result<(), OutOfMemory> {
         assert_eq!(rt; ran.ended.status, status, "{words:?}");
         assert_eq!(rt; ran.out.written(), output, "{words:?}");
     }
+    Ok(())
+}
+
+// Outcomes of 64 qubits, all or some of them measured.
+#[test]
+fn outcomes_of_64_qubits(rt: HostRuntime) -> Result<(), OutOfMemory> {
+    let mut text = Vec::from_slice(rt.alloc(), b"OPENQASM 2.0;\nqreg q[64];\nh q[0];\n")?;
+    for i in 0..63u8 {
+        let line = format!(in rt.alloc(); "cx q[{i}],q[{}];\n", i + 1)?;
+        text.extend_from_slice(line.as_bytes())?;
+    }
+    let ran = run_on(rt.alloc(), &["sliq", "prob", "a"], &text, CALM)?;
+    assert!(rt; ended_by(&ran, 0, &Cause::Done));
+    assert_eq!(rt;
+        ran.out.written(),
+        b"measured 64\n0000000000000000000000000000000000000000000000000000000000000000 (1,0)/2^1\n1111111111111111111111111111111111111111111111111111111111111111 (1,0)/2^1\noutcomes 2\n".as_slice()
+    );
+    text.extend_from_slice(
+        b"creg c[3]; t q[63]; h q[63]; measure q[63] -> c[0]; measure q[0] -> c[1]; measure q[31] -> c[2];\n",
+    )?;
+    let ran = run_on(rt.alloc(), &["sliq", "prob", "a"], &text, CALM)?;
+    assert!(rt; ended_by(&ran, 0, &Cause::Done));
+    assert_eq!(rt;
+        ran.out.written(),
+        b"measured 3\n000 (1,0)/2^2\n001 (1,0)/2^2\n110 (1,0)/2^2\n111 (1,0)/2^2\noutcomes 4\n".as_slice()
+    );
     Ok(())
 }

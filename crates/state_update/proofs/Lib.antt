@@ -1,1 +1,5 @@
+pub mod Ends
+pub mod GateSteps
+pub mod NodeLemmas
 pub mod StateLemmas
+pub mod Shown

@@ -1,12 +1,10 @@
 -- What keeps a state, at its start and from gate to gate, and what is read of it.
-use Rattle.std.proofs.Common.{◌≡◌, ◌≢◌, ℕ, suc, ◌+◌, ◌<◌, ◌≤◌, Bool, true, false, cond, List, [], ◌∷◌, ◌++◌, length, All, Option, None, Some, Result, Ok, Err, refl, sym, ◌∙◌, ap, subst, arith, length-append}
+use Rattle.std.proofs.Common.{◌≡◌, ℕ, ◌+◌, ◌<◌, ◌≤◌, Bool, true, false, cond, List, [], ◌∷◌, ◌++◌, length, Option, None, Some, Result, Ok, Err, refl, sym, ◌∙◌, ap, subst, arith, length-append}
 use Rattle.std.specs.List.{range_with_len}
 use Rattle.std.specs.Prelude.{IfOk, IfSome, IfNone}
 use Rattle.std.proofs.lemmas.List.FromFn.{length-range_with_len}
 use Rattle.std.proofs.lemmas.List.Elements.{All-nil, All-cons, All-append}
-use Rattle.ring_omega.specs.declared.quad.Quad.{Quad}
 use Rattle.ring_omega.specs.Ring.{zero_quad, one_quad}
-use Rattle.bit_lists.specs.Lists.{IsBefore}
 use Rattle.gate_set.specs.declared.gate.Gate.{Gate}
 use Rattle.gate_set.specs.Shape.{IsOn}
 use Rattle.circuit_model.specs.Product.{basis_state, same_bits}
@@ -16,20 +14,15 @@ use Rattle.circuit_model.proofs.WorkingLemmas.{work-last, step_exponent}
 use Rattle.diagram_model.specs.Functions.{bit}
 use Rattle.diagram_model.specs.Stores.{Diagram}
 use Rattle.diagram_ops.specs.Diagrams.{Shared, IsConsistent}
-use Rattle.diagram_ops.specs.Made.{Property}
-use Rattle.slice_vec.specs.Growing.{Grows}
 use Rattle.amp_dense.specs.Nonzero as amplitudes
 use Rattle.amp_dense.specs.Rules.{Settings, AreRules}
-use Rattle.amp_dense.specs.Standing.{Standing, Fits}
+use Rattle.amp_dense.specs.Standing.{Fits}
 use Rattle.slice_quad.specs.declared.quad.SliceQuad.{SliceQuad}
-use Rattle.slice_quad.specs.Mix.{Vector}
 use Rattle.slice_quad.specs.Nonzero.{IsAfter, IsNextNonzero, NoneAfter}
 use Rattle.slice_quad.specs.Started.{IsStart}
 use Rattle.slice_quad.specs.Vectors.{vector_in, Stands}
 use Rattle.slice_quad.specs.Walks.{entries_in}
-use Rattle.slice_gates.specs.Shown.{IsShown, Shows}
-use Rattle.slice_quad.proofs.Onwards.{vector_on}
-use Rattle.slice_quad.proofs.StepCalls.{whole_of}
+use Rattle.slice_gates.specs.Shown.{Shows}
 use Rattle.state_update.specs.Kept.{State, IsKept, standing_of}
 
 -- ---- the start
@@ -164,14 +157,6 @@ none_is s m given h size none x len after = sym (entry_is s x h len) ∙ none x 
     after_from (Some z) y a = a
 
 -- ---- what a gate's step says, in the words of the state
--- the entries stay where nodes are added
-pub shows_on : (u v : Shared) (Is : Property) (q : SliceQuad) (w : Scaled) → IsConsistent u → Grows u Is v → Stands u.store q → Shows u.store q w → Shows v.store q w
-shows_on u v Is q w sound g stands h =
-    let whole = whole_of u.store q stands q.width_b q.width_c q.width_d in
-    let same : vector_in v.store q.four ≡ vector_in u.store q.four = vector_on u v Is (length q.four.a) q.four sound g whole in
-    let size : length v.store.order ≡ length u.store.order = ap (λ (l : List ℕ). length l) g.extends.order in
-    record { exponent = h.exponent; entries = λ x len. h.entries x (len ∙ size) ∙ ap (λ (f : Vector). f (bit x)) (sym same) }
-
 pub fits_state : (s : State) (g : Gate) (width : ℕ) → IsKept s → width ≡ s.rules.width → FitsWidth (length s.diagrams.store.order) width (raw g (work s.gates s.input)).entries → Fits (standing_of s) g
 fits_state s g width h e fits =
     let size = size_of_order s.diagrams.store.order (length s.input) h.order in

@@ -1,18 +1,20 @@
 -- What contracts see of a state that is kept as integers over decision diagrams, and how they keep it.
-use Rattle.std.specs.Prelude.{◌≡◌, ◌≤◌, ◌<◌, ℕ, Bool, List, length, All}
+use Rattle.std.specs.Prelude.{◌≡◌, ◌≤◌, ℕ, Bool, false, List, length, All}
 use Rattle.std.specs.List.{range_with_len}
 use Rattle.gate_set.specs.declared.gate.Gate.{Gate}
 use Rattle.gate_set.specs.Shape.{IsOn}
 use Rattle.circuit_model.specs.Working.{work}
-use Rattle.amp_dense.specs.declared.stop.Stop.{Stop}
-use Rattle.amp_dense.specs.declared.stop.Stop.TheVariants.{Width, Nodes, OutOfMemory}
 use Rattle.amp_dense.specs.Rules.{Settings}
-use Rattle.amp_dense.specs.Standing.{Standing, Policy}
-use Rattle.diagram_model.specs.Stores.{Diagram, held}
+use Rattle.amp_dense.specs.Standing.{Standing, Policy, vector, with_gate}
+use Rattle.diagram_model.specs.Functions.{Function}
+use Rattle.diagram_model.specs.Size.{size}
 use Rattle.diagram_ops.specs.Diagrams.{Shared, IsConsistent}
+use Rattle.diagram_ops.specs.Made.{Property, IsPrefixOfSome}
 use Rattle.slice_quad.specs.declared.quad.SliceQuad.{SliceQuad}
 use Rattle.slice_quad.specs.Vectors.{Stands}
-use Rattle.slice_gates.specs.Shown.{Shows}
+use Rattle.slice_gates.specs.GateWork.{gate_work}
+use Rattle.slice_gates.specs.Shown.{Shows, by_values}
+use Rattle.step_upkeep.specs.Stored.{stored_functions}
 
 -- the input, the rules, the gates accepted so far, and the diagrams with the integers
 pub record State : Type 0 where
@@ -40,11 +42,33 @@ pub record IsKept (s : State) : Type 0 where
   pub narrow : length s.quad.four.a ≤ s.rules.width
   pub kept : s.quad.kept.0 ≡ 0
 
--- integers over diagrams keep the natural order; a gate may be refused for want of nodes, and every gate may be accepted
-abbrev pub sliced_policy : Policy
-sliced_policy = record { may_reorder = λ s result order. order ≡ s.order; may_refuse = λ s g. Unit {0}; may_accept = λ s g. Unit {0} }
+-- ---- nodes
+-- beside a state no function is kept
+abbrev pub never : Function
+never = λ x. false
 
--- where there were too few nodes, the diagrams hold as many as the limit lets them
-abbrev pub IsFull : Diagram → Stop → Type 0
-IsFull d (Nodes number order full) = held d ≡ d.limit
-IsFull d _ = Unit {0}
+-- the work functions of a gate, with coefficients as wide as the rules let them be: where a gate's are narrower, the bits more are
+-- the sign again, which adds no function
+abbrev pub work_of : Standing → Gate → List Function
+work_of s g = gate_work (length s.input) s.rules.width never g (vector s).entries
+
+-- a function that arises from one of those, by fixing a prefix of the order in force
+abbrev pub InWork : Standing → Gate → Property
+InWork s g = IsPrefixOfSome s.order (work_of s g)
+
+-- the functions that the vector is stored by
+abbrev pub stored_of : Standing → List Function
+stored_of s = stored_functions s.rules.width never (by_values (length s.input) (vector s).entries)
+
+-- how many nodes functions need in the order in force
+abbrev pub needed : Standing → List Function → ℕ
+needed s fs = size (length s.order) s.order fs
+
+-- Integers over diagrams keep the natural order. A gate may be refused for want of nodes where its work functions alone need as many as
+-- the rules let the diagrams hold, and accepted where they may hold as many as the vector is stored by afterwards.
+abbrev pub sliced_policy : Policy
+sliced_policy = record {
+  may_reorder = λ s result order. order ≡ s.order;
+  may_refuse = λ s g. s.rules.nodes ≤ needed s (work_of s g);
+  may_accept = λ s g. needed s (stored_of (with_gate s g)) ≤ s.rules.nodes;
+}

@@ -1,9 +1,14 @@
 //! The working vector of up to 64 qubits, kept as integers over decision diagrams.
 #![tactic(auto)]
 
+mod laws;
 mod sliced;
+mod weighing;
 
+pub use laws::each_gate_has_an_end;
 pub use sliced::SlicedState;
 
 #[cfg(test)]
 mod tests;
+#[cfg(test)]
+mod weighing_tests;

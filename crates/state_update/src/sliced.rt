@@ -6,15 +6,16 @@ use bit_lists::{Bits, OutOfMemory};
 use diagram_ops::Diagrams;
 use gate_set::Gate;
 use ring_omega::Quad;
-use slice_gates::gate_step;
 use slice_quad::{QuadStop, SliceQuad, entry, exponent, next_nonzero, start};
 use std::alloc::Global;
 use std::marker::Model;
+use step_upkeep::upkept_gate;
 
 /// The working vector of at most 64 qubits, as integers over decision diagrams with a variable for each qubit.
 ///
 /// A gate takes the time of the connectives of its step: what it costs depends on how many functions the bits of the
-/// vector share, not on the number of basis states. Nodes that are no longer wanted stay held.
+/// vector share, not on the number of basis states. Nodes that are no longer wanted are reclaimed after every so many
+/// gates, as the rules say, and where the diagrams are full.
 #[derive(Drop)]
 pub struct SlicedState {
     input: Bits,
@@ -54,11 +55,20 @@ impl SlicedState {
     }
 }
 
+/// After how many gates nodes are reclaimed, where 0 is never.
+fn gates_between(rules: &Rules) -> u32
+    ensures { result ≡ rules.now.reclaim }
+{
+    rules.reclaim
+}
+
 impl Amplitudes for SlicedState {
-    ghost use Rattle.std.specs.Prelude.{◌≡◌, ◌<◌, IfErr, OnOk, OnErr, length};
+    ghost use Rattle.std.specs.Prelude.{◌≡◌, ◌<◌, true, IfErr, OnOk, OnErr, length};
     ghost use Rattle.gate_set.specs.Shape.{IsOn};
     ghost use Rattle.amp_dense.specs.Standing.{Standing, Accepts, Applies, MayStop, NamesOrder, in_order};
-    ghost use Rattle.state_update.specs.Kept.{standing_of, sliced_policy, IsFull};
+    ghost use Rattle.node_reclaim.specs.Reclaims.{HoldsOnly};
+    ghost use Rattle.step_upkeep.specs.Due.{is_due};
+    ghost use Rattle.state_update.specs.Kept.{standing_of, sliced_policy, InWork};
 
     const MOST: u8 = 64;
 
@@ -83,7 +93,9 @@ impl Amplitudes for SlicedState {
         })
     }
 
-    /// After `Nodes` the diagrams of `parts` hold as many nodes as the rules let them.
+    /// Where a reclaim is due, the nodes that the vector isn't stored by are freed first. Where the diagrams are full in the middle of the gate,
+    /// they are freed too, and the gate is tried once more. `Nodes` comes only where the gate's work functions alone need as many nodes as
+    /// the rules allow.
     fn apply(&mut self, alloc: Global, gate: &Gate) -> Result<(), Stop>
         requires within { IsOn (length (standing_of self.old).input) gate.now }
         requires few { length (standing_of self.old).gates < 2000000 }
@@ -92,12 +104,22 @@ impl Amplitudes for SlicedState {
         ensures in_force { IfErr result (NamesOrder (standing_of self.new).order) }
         ensures refused { OnErr result (standing_of self.new ≡ in_order (standing_of self.old) (standing_of self.new).order) }
         ensures order { sliced_policy.may_reorder (standing_of self.old) result (standing_of self.new).order }
-        ensures full { IfErr result (IsFull self.new.diagrams.store) }
+        ensures after_reclaim { is_due (standing_of self.old).rules.reclaim (length (standing_of self.old).gates) ≡ true → OnOk result (HoldsOnly self.new.diagrams.store (InWork (standing_of self.old) gate.now)) }
     {
-        let number = self.accepted() + 1;
+        let gates = self.accepted();
+        let number = gates + 1;
         self.gates.reserve(1)?;
         let width = self.rules.width();
-        match gate_step(&mut self.diagrams, &mut self.quad, gate, width) {
+        let every = gates_between(&self.rules);
+        match upkept_gate(
+            alloc,
+            &mut self.diagrams,
+            &mut self.quad,
+            gate,
+            width,
+            every,
+            gates,
+        ) {
             Ok(()) => {
                 self.gates
                     .push_reserved(Gate::new(alloc, gate.kind(), gate.on()));

@@ -1,9 +1,10 @@
-use Rattle.std.proofs.Common.{rules, ◌≡◌, ℕ, Bool, List, Err, Ok, length, false, sym, ◌∙◌, ap, subst}
-use Rattle.std.specs.List.{range_with_len}
+use Rattle.std.proofs.Common.{rules, ◌≡◌, ◌<◌, ℕ, Bool, List, Err, Ok, length, replicate, false, sym, ◌∙◌, ap, subst, arith, map}
+use Rattle.std.proofs.lemmas.Int.{ints}
 use Rattle.std.proofs.lemmas.List.{length-replicate, length-map}
 use Rattle.gate_set.specs.Circuits.{Circuit}
-use Rattle.amp_dense.specs.Standing.{Standing, begun, vector, dense_policy}
+use Rattle.amp_dense.specs.Standing.{Standing, begun, vector}
 use Rattle.amp_dense.proofs.Walking.{walked}
+use Rattle.state_update.specs.Kept.{standing_of, sliced_policy}
 use Rattle.probabilities.specs.Outcomes.{counted}
 use Rattle.probabilities.specs.Weighing.{total_weight, IsNarrow}
 use Rattle.sliq_engine.specs.declared.output.SendStop.{SendStop}
@@ -11,7 +12,7 @@ use Rattle.sliq_engine.specs.declared.cause.Cause.{Cause}
 use Rattle.sliq_engine.specs.Steps.{zeros, Simulates}
 use Rattle.sliq_engine.specs.Ending.{MayStopBy}
 use Rattle.sliq_engine.specs.Private.{cause_of_sending}
-use Rattle.sliq_engine.proofs.ProbLemmas.{prob_refused, prob_unbuilt, prob_halts, prob_too_heavy, prob_stops, prob_ends, light_total}
+use Rattle.sliq_engine.proofs.ProbLemmas.{prob_refused, prob_halts, prob_too_heavy, prob_stops, prob_ends, light_total}
 use Rattle.sliq_engine.proofs.prob.prob.Goals as goal
 
 pub returns-in_err-circuit-clause-stop : goal.returns-in_err-circuit-clause-stop
@@ -20,43 +21,37 @@ returns-in_err-circuit-clause-stop g c =
     let told : c.from_residual.result ≡ Err cause = search rules in
     rw told (prob_refused c.args.rules.now c.args.text.now cause (g.K.Sink.written c.args.out.now) c.in_err-circuit.ensures.stop)
 
-pub returns-in_err-check_built-clause-stop : goal.returns-in_err-check_built-clause-stop
-returns-in_err-check_built-clause-stop g c =
-    let cause : Cause = c.in_err-check_built.field-0.0 in
-    let told : c.from_residual-in_err-check_built.result ≡ Err cause = search rules in
-    rw told (prob_unbuilt c.args.rules.now c.args.text.now c.in_ok-circuit.circuit c.in_ok-circuit.ensures.reads cause (g.K.Sink.written c.args.out.now) c.in_err-check_built.ensures.stop)
-
 pub returns-in_err-state-clause-stop : goal.returns-in_err-state-clause-stop
 returns-in_err-state-clause-stop g c =
     let it : Circuit = c.in_ok-circuit.circuit in
     let cause : Cause = c.in_err-state.field-0.0 in
     let told : c.from_residual-in_err-state.result ≡ Err cause = search rules in
-    let halts : MayStopBy (Simulates dense_policy c.args.rules.now (zeros it.qubits) it.gates) cause =
-    subst (λ (x : List Bool). MayStopBy (Simulates dense_policy c.args.rules.now x it.gates) cause) c.zeros_of-input.ensures c.in_err-state.ensures.stop in
-    rw told (prob_halts c.args.rules.now c.args.text.now it c.in_ok-circuit.ensures.reads c.in_ok-check_built.ensures.built cause (g.K.Sink.written c.args.out.now) halts)
+    let halts : MayStopBy (Simulates sliced_policy c.args.rules.now (zeros it.qubits) it.gates) cause =
+    subst (λ (x : List Bool). MayStopBy (Simulates sliced_policy c.args.rules.now x it.gates) cause) c.zeros_of-input.ensures c.in_err-state.ensures.stop in
+    rw told (prob_halts c.args.rules.now c.args.text.now it c.in_ok-circuit.ensures.reads cause (g.K.Sink.written c.args.out.now) halts)
 
 pub check_weight-requires-clause-size : goal.check_weight-requires-clause-size
 check_weight-requires-clause-size g c =
     let it : Circuit = c.in_ok-circuit.circuit in
-    let by = walked dense_policy (begun c.zeros_of-input.result c.args.rules.now) it.gates _ c.in_ok-state.ensures.simulates in
+    let by = walked sliced_policy (begun c.zeros_of-input.result c.args.rules.now) it.gates _ c.in_ok-state.ensures.simulates in
     ap length (by.input ∙ c.zeros_of-input.ensures) ∙ length-replicate it.qubits false ∙ sym c.qubits.ensures.value
 
 pub returns-in_err-check_weight-clause-stop : goal.returns-in_err-check_weight-clause-stop
 returns-in_err-check_weight-clause-stop g c =
     let it : Circuit = c.in_ok-circuit.circuit in
     let s = c.in_ok-state.state in
-    let t : Standing = record { input = s.input; rules = s.rules; gates = s.gates; order = range_with_len 0 (length s.input) } in
-    let simulates : Simulates dense_policy c.args.rules.now (zeros it.qubits) it.gates (Ok t) =
-    subst (λ (x : List Bool). Simulates dense_policy c.args.rules.now x it.gates (Ok t)) c.zeros_of-input.ensures c.in_ok-state.ensures.simulates in
+    let t : Standing = standing_of s in
+    let simulates : Simulates sliced_policy c.args.rules.now (zeros it.qubits) it.gates (Ok t) =
+    subst (λ (x : List Bool). Simulates sliced_policy c.args.rules.now x it.gates (Ok t)) c.zeros_of-input.ensures c.in_ok-state.ensures.simulates in
     let cause : Cause = c.in_err-check_weight.field-0.0 in
     let told : c.from_residual-in_err-check_weight.result ≡ Err cause = search rules in
-    rw told (prob_too_heavy c.args.rules.now c.args.text.now it c.in_ok-circuit.ensures.reads c.in_ok-check_built.ensures.built t simulates c.qubits.result c.qubits.ensures.value
+    rw told (prob_too_heavy c.args.rules.now c.args.text.now it c.in_ok-circuit.ensures.reads t simulates c.qubits.result c.qubits.ensures.value
     cause (g.K.Sink.written c.args.out.now) c.in_err-check_weight.ensures.stop)
 
 pub send_outcomes-requires-clause-size : goal.send_outcomes-requires-clause-size
 send_outcomes-requires-clause-size g c =
     let it : Circuit = c.in_ok-circuit.circuit in
-    let by = walked dense_policy (begun c.zeros_of-input.result c.args.rules.now) it.gates _ c.in_ok-state.ensures.simulates in
+    let by = walked sliced_policy (begun c.zeros_of-input.result c.args.rules.now) it.gates _ c.in_ok-state.ensures.simulates in
     let flags : length c.counted-measured.result ≡ it.qubits =
     ap length (c.counted-measured.ensures ∙ ap counted c.measured.ensures.value) ∙ length-map it.measured _ ∙ c.measured.ensures.sound.flags in
     ap length (by.input ∙ c.zeros_of-input.ensures) ∙ length-replicate it.qubits false ∙ sym flags
@@ -65,7 +60,7 @@ pub send_outcomes-requires-clause-light : goal.send_outcomes-requires-clause-lig
 send_outcomes-requires-clause-light g c =
     let it : Circuit = c.in_ok-circuit.circuit in
     let s = c.in_ok-state.state in
-    let t : Standing = record { input = s.input; rules = s.rules; gates = s.gates; order = range_with_len 0 (length s.input) } in
+    let t : Standing = standing_of s in
     let flags : length c.counted-measured.result ≡ it.qubits =
     ap length (c.counted-measured.ensures ∙ ap counted c.measured.ensures.value) ∙ length-map it.measured _ ∙ c.measured.ensures.sound.flags in
     subst (λ (n : ℕ). IsNarrow (total_weight n (vector t).entries)) (c.qubits.ensures.value ∙ sym flags) (light_total c.qubits.result (vector t).entries c.in_ok-check_weight.ensures.light)
@@ -74,22 +69,22 @@ pub returns-in_err-send_outcomes-clause-stop : goal.returns-in_err-send_outcomes
 returns-in_err-send_outcomes-clause-stop g c =
     let it : Circuit = c.in_ok-circuit.circuit in
     let s = c.in_ok-state.state in
-    let t : Standing = record { input = s.input; rules = s.rules; gates = s.gates; order = range_with_len 0 (length s.input) } in
-    let simulates : Simulates dense_policy c.args.rules.now (zeros it.qubits) it.gates (Ok t) =
-    subst (λ (x : List Bool). Simulates dense_policy c.args.rules.now x it.gates (Ok t)) c.zeros_of-input.ensures c.in_ok-state.ensures.simulates in
+    let t : Standing = standing_of s in
+    let simulates : Simulates sliced_policy c.args.rules.now (zeros it.qubits) it.gates (Ok t) =
+    subst (λ (x : List Bool). Simulates sliced_policy c.args.rules.now x it.gates (Ok t)) c.zeros_of-input.ensures c.in_ok-state.ensures.simulates in
     let measured : c.counted-measured.result ≡ counted it.measured = c.counted-measured.ensures ∙ ap counted c.measured.ensures.value in
     let stop : SendStop = c.in_err-send_outcomes.field-0.0 in
     let told : c.from_residual-in_err-send_outcomes.result ≡ Err (cause_of_sending stop) = search rules in
-    rw told (prob_stops c.args.rules.now c.args.text.now it c.in_ok-circuit.ensures.reads c.in_ok-check_built.ensures.built t simulates c.qubits.result c.qubits.ensures.value
+    rw told (prob_stops c.args.rules.now c.args.text.now it c.in_ok-circuit.ensures.reads t simulates c.qubits.result c.qubits.ensures.value
     c.in_ok-check_weight.ensures.light c.counted-measured.result measured stop (g.K.Sink.written c.args.out.now) (g.K.Sink.written c.send_outcomes.new.out) c.in_err-send_outcomes.ensures.err)
 
 pub returns-clause-done : goal.returns-clause-done
 returns-clause-done g c =
     let it : Circuit = c.in_ok-circuit.circuit in
     let s = c.in_ok-state.state in
-    let t : Standing = record { input = s.input; rules = s.rules; gates = s.gates; order = range_with_len 0 (length s.input) } in
-    let simulates : Simulates dense_policy c.args.rules.now (zeros it.qubits) it.gates (Ok t) =
-    subst (λ (x : List Bool). Simulates dense_policy c.args.rules.now x it.gates (Ok t)) c.zeros_of-input.ensures c.in_ok-state.ensures.simulates in
+    let t : Standing = standing_of s in
+    let simulates : Simulates sliced_policy c.args.rules.now (zeros it.qubits) it.gates (Ok t) =
+    subst (λ (x : List Bool). Simulates sliced_policy c.args.rules.now x it.gates (Ok t)) c.zeros_of-input.ensures c.in_ok-state.ensures.simulates in
     let measured : c.counted-measured.result ≡ counted it.measured = c.counted-measured.ensures ∙ ap counted c.measured.ensures.value in
-    prob_ends c.args.rules.now c.args.text.now it c.in_ok-circuit.ensures.reads c.in_ok-check_built.ensures.built t simulates c.qubits.result c.qubits.ensures.value
+    prob_ends c.args.rules.now c.args.text.now it c.in_ok-circuit.ensures.reads t simulates c.qubits.result c.qubits.ensures.value
     c.in_ok-check_weight.ensures.light c.counted-measured.result measured (g.K.Sink.written c.args.out.now) (g.K.Sink.written c.send_outcomes.new.out) c.in_ok-send_outcomes.ensures.ok

@@ -1,4 +1,4 @@
-use Rattle.std.proofs.Common.{◌≡◌, ℕ, List, Bool, ap, sym, ◌∙◌, length, subst}
+use Rattle.std.proofs.Common.{ap, sym, ◌∙◌, length, subst}
 use Rattle.std.specs.Option.{option_copied}
 use Rattle.circuit_model.specs.Working.{work}
 use Rattle.amp_dense.specs.Nonzero as amplitudes

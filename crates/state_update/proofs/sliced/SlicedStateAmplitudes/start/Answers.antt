@@ -1,4 +1,4 @@
-use Rattle.std.proofs.Common.{◌≡◌, ◌∙◌, ap, sym, length}
+use Rattle.std.proofs.Common.{◌≡◌, ◌∙◌, ap, sym}
 use Rattle.std.specs.List.{range_with_len}
 use Rattle.amp_dense.specs.Rules.{Settings}
 use Rattle.amp_dense.specs.contracts.rules.Rules.{the_view as rules_view}
