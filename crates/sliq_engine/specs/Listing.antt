@@ -7,11 +7,11 @@ use Rattle.circuit_model.specs.Working.{Scaled}
 use Rattle.amp_printer.specs.declared.counted.Counted.TheVariants.{Qubits, States}
 use Rattle.amp_printer.specs.Texts.{state_line, count_line}
 
--- their lines
+-- the lines of those that are not left out, one after another
 abbrev pub listing_of : ℕ → (List Bool → Bool) → (List Bool → List ℕ) → List ℕ
 listing_of n left_out line = flat_map (λ x. cond (left_out x) [] (line x)) (all_lists n)
 
--- how many have a line
+-- how many have one
 abbrev pub number_listed : ℕ → (List Bool → Bool) → ℕ
 number_listed n left_out = count_by (λ x. not (left_out x)) (all_lists n)
 
