@@ -99,7 +99,7 @@ step_shown n d f k w g s e r j shown is sound size settled =
     record { exponent = both.0; entries = both.1 }
 
 -- ---- the width
-fits_quad : (width : ℕ) (v : Vector) (x : Assignment) → FitsWidth width v → circuits.QuadFits width (v x)
+pub fits_quad : (width : ℕ) (v : Vector) (x : Assignment) → FitsWidth width v → circuits.QuadFits width (v x)
 fits_quad width v x h = record {
   a_fits = ((h A x).low, (h A x).high);
   b_fits = ((h B x).low, (h B x).high);
@@ -107,7 +107,7 @@ fits_quad width v x h = record {
   d_fits = ((h D x).low, (h D x).high);
 }
 
-quad_fits : (width : ℕ) (q : Quad) (z : Coord) → circuits.QuadFits width q → slices.IsWithin width (coordinate z q)
+pub quad_fits : (width : ℕ) (q : Quad) (z : Coord) → circuits.QuadFits width q → slices.IsWithin width (coordinate z q)
 quad_fits width q A h = record { low = h.a_fits.0; high = h.a_fits.1 }
 quad_fits width q B h = record { low = h.b_fits.0; high = h.b_fits.1 }
 quad_fits width q C h = record { low = h.c_fits.0; high = h.c_fits.1 }
@@ -171,7 +171,7 @@ pub step_at : (m n : ℕ) (g : Gate) (s : Step) → m ≡ n → IsStepOf m State
 step_at m n g s e h = subst (λ i. IsStepOf i State g s) e h
 
 -- a gate adds at most one root
-few_halves : (k : Kind) → half_power_of k ≤ 1
+pub few_halves : (k : Kind) → half_power_of k ≤ 1
 few_halves Id = omega arith
 few_halves X = omega arith
 few_halves Y = omega arith

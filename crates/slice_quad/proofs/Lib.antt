@@ -12,6 +12,8 @@ pub mod GateCalls
 pub mod Gates
 pub mod Gathered
 pub mod Heres
+pub mod IdentityNodes
+pub mod IdentityParts
 pub mod MixLemmas
 pub mod Narrow
 pub mod Onwards

@@ -73,7 +73,7 @@ tally_one (suc n) (o ∷ s) (u ∷ t) p free here others =
     let rest = tally_one n s t p free here (λ m ne. others (suc m) (λ e. ne (omega (arith, e)))) in omega (arith, a, rest)
 
 -- one node more is held
-held_one : (d e : Diagram) (n : ℕ) (p : Parts) → Extends d e → AddsOnly d e n → parts_of d.slots n ≡ None → parts_of e.slots n ≡ Some p → held e ≡ suc (held d)
+pub held_one : (d e : Diagram) (n : ℕ) (p : Parts) → Extends d e → AddsOnly d e n → parts_of d.slots n ≡ None → parts_of e.slots n ≡ Some p → held e ≡ suc (held d)
 held_one d e n p ext only free here =
     tally_is e.slots ∙ tally_one n d.slots e.slots p free here (λ m ne. either m ne (parts_of e.slots m) (parts_of d.slots m) refl refl) ∙ ap suc (sym (tally_is d.slots))
   where
@@ -122,7 +122,7 @@ has_tail v w vs h = elim (cases_Bool (eqb v w)) [
 ]
 
 -- all else is in the tail
-has_other : (v w : ℕ) (vs : List ℕ) → v ≢ w → has (v ∷ vs) w ≡ true → has vs w ≡ true
+pub has_other : (v w : ℕ) (vs : List ℕ) → v ≢ w → has (v ∷ vs) w ≡ true → has vs w ≡ true
 unfolding has
 has_other v w vs ne h = sym (cond-false (eqb v w) true (has vs w) (ne_eqb v w ne)) ∙ h
 
@@ -266,6 +266,10 @@ tally_some [] m p eq = cc
 tally_some (Some q ∷ s) m p eq = omega arith
 tally_some (None ∷ s) zero p eq = cc
 tally_some (None ∷ s) (suc m) p eq = let h = tally_some s m p eq in omega (arith, h)
+
+-- so some is held
+pub held_some : (d : Diagram) (m : ℕ) (p : Parts) → parts_of d.slots m ≡ Some p → 0 < held d
+held_some d m p eq = let some = tally_some d.slots m p eq in let is = tally_is d.slots in omega (arith, some, is)
 
 -- nothing stands behind the end
 drop_all : (vs : List ℕ) (v : ℕ) → has (drop (length vs) vs) v ≡ true → ⊥

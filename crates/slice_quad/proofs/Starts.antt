@@ -35,7 +35,7 @@ differs (false ∷ x) (false ∷ y) len = elim (differs x y (omega (arith, len))
   | inr h ↦ let lt = h.1 in inr (suc h.0, omega (arith, lt), h.2)
 ]
 
-node_value : (e : Diagram) (n : ℕ) (y : Assignment) (b : Bool) → IsSound e → value e.slots e.order y n ≡ b → value_at e (n ∷ 0 ∷ []) y ≡ pos (number b)
+pub node_value : (e : Diagram) (n : ℕ) (y : Assignment) (b : Bool) → IsSound e → value e.slots e.order y n ≡ b → value_at e (n ∷ 0 ∷ []) y ≡ pos (number b)
 unfolding slice_value low_sum digits_of function_of
 node_value e n y b sound is =
     let z = value-small e.slots (length e.order) e.order 0 sound.diagram (omega arith) y in
@@ -43,7 +43,7 @@ node_value e n y b sound is =
     ∙ ap (λ c. pos (0 + 2 ^ 0 * number b) -ℤ pos (2 ^ 1 * number c)) z
     ∙ (let h : pos (0 + 1 * number b) -ℤ pos (2 * 0) ≡ pos (number b) = omega (arith, ints) in h)
 
-pair_stands : (e : Diagram) (n : ℕ) → IsLive e n → StandsIn e (n ∷ 0 ∷ [])
+pub pair_stands : (e : Diagram) (n : ℕ) → IsLive e n → StandsIn e (n ∷ 0 ∷ [])
 pair_stands e n live = record { some = omega arith; few = omega arith; live = each }
   where
     each : (i : ℕ) → i < 2 → IsLive e (get_or (n ∷ 0 ∷ []) i 0)
@@ -51,7 +51,7 @@ pair_stands e n live = record { some = omega arith; few = omega arith; live = ea
     each (suc zero) lt = inl (omega arith)
     each (suc (suc i)) lt = absurd (omega arith)
 
-quad_as : (a b c d : ℤ) → a ≡ pos 0 → b ≡ pos 0 → c ≡ pos 0 → (z : ℤ) → d ≡ z → quad a b c d ≡ quad (pos 0) (pos 0) (pos 0) z
+pub quad_as : (a b c d : ℤ) → a ≡ pos 0 → b ≡ pos 0 → c ≡ pos 0 → (z : ℤ) → d ≡ z → quad a b c d ≡ quad (pos 0) (pos 0) (pos 0) z
 quad_as a b c d ea eb ec z ed = rw (ea, eb, ec, ed) refl
 
 pub start_of : (d e : Diagram) (x : List Bool) (n : ℕ) (q : SliceQuad) → IsBuilt d e x 0 n → length x ≡ length d.order → q.four.a ≡ replicate 2 0 → q.four.b ≡ replicate 2 0 → q.four.c ≡ replicate 2 0 → q.four.d ≡ n ∷ 0 ∷ [] → q.exponent ≡ 0 → q.kept.0 ≡ 0 → IsStart e x q

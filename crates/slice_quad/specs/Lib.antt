@@ -4,6 +4,8 @@ pub mod Crossings
 pub mod Exchange
 pub mod Fields
 pub mod Fours
+pub mod Identities
+pub mod IdentityBuilt
 pub mod Mix
 pub mod Nonzero
 pub mod Raws

@@ -60,7 +60,7 @@ fn start_counted<L: Ledger>(
 }
 
 /// 1 where a node is true, and 0 elsewhere.
-fn four_of(alloc: Global, node: Node) -> Result<Four, OutOfMemory>
+pub fn four_of(alloc: Global, node: Node) -> Result<Four, OutOfMemory>
     ensures a { IfOk result (λ f. f.a ≡ replicate 2 0) }
     ensures b { IfOk result (λ f. f.b ≡ replicate 2 0) }
     ensures c { IfOk result (λ f. f.c ≡ replicate 2 0) }

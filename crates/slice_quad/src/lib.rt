@@ -22,6 +22,7 @@ mod settle;
 mod stepping;
 mod stop;
 mod term;
+mod unit_matrix;
 mod walk;
 mod widths;
 mod within;
@@ -35,6 +36,7 @@ pub use quad::SliceQuad;
 pub use reading::entry;
 pub use stepping::step;
 pub use stop::QuadStop;
+pub use unit_matrix::identity;
 pub use walk::next_nonzero;
 
 #[cfg(test)]

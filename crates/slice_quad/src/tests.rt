@@ -4,8 +4,8 @@ ghost use Rattle.slice_quad.specs.Stepping.{IsStepOn, half_of};
 ghost use Rattle.slice_quad.specs.Vectors.{Stands};
 
 use crate::{
-    Coord, QuadStop, SliceQuad, Step, bits, entry, exponent, kept, next_nonzero, roots, rotate,
-    start, step, width,
+    Coord, QuadStop, SliceQuad, Step, bits, entry, exponent, identity, kept, next_nonzero, roots,
+    rotate, start, step, width,
 };
 use bit_lists::Bits;
 use diagram_ops::Diagrams;
@@ -216,4 +216,51 @@ fn a_full_store_stops_a_start_and_a_step(rt: HostRuntime) {
         }
     );
     assert_eq!(rt; exponent(&q), 0);
+}
+
+/// The list of four bits of a number.
+fn four_bits(number: u8) -> Bits
+    ensures { length result ≡ 4 }
+{
+    let mut x = Bits::zeros(4);
+    x.set(0, number & 8 != 0);
+    x.set(1, number & 4 != 0);
+    x.set(2, number & 2 != 0);
+    x.set(3, number & 1 != 0);
+    x
+}
+
+#[test]
+fn identity_on_two_qubits(rt: HostRuntime) {
+    let alloc = rt.alloc();
+    let Ok(mut small) = Diagrams::new(alloc, 4, 5, 16) else {
+        panic!(rt; "no memory");
+    };
+    assert!(rt;
+        matches!(
+            identity(alloc, &mut small, 2),
+            Err(StoreStop::Full { held: 5 })
+        )
+    );
+    let Ok(mut d) = Diagrams::new(alloc, 4, 6, 16) else {
+        panic!(rt; "no memory");
+    };
+    let Ok(q) = identity(alloc, &mut d, 2) else {
+        panic!(rt; "no room");
+    };
+    assert_eq!(rt; (d.store().held(), exponent(&q)), (6, 0));
+    assert!(rt; bits(&q, Coord::D).bit(0) == kept(&q));
+    for number in 0..16u8 {
+        let x = four_bits(number);
+        let one = i128::from(x.get(0) == x.get(1) && x.get(2) == x.get(3));
+        assert_eq!(rt;
+            entry(&d, &q, &x),
+            Quad {
+                a: 0,
+                b: 0,
+                c: 0,
+                d: one
+            }
+        );
+    }
 }

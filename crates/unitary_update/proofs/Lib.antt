@@ -1,0 +1,2 @@
+pub mod MatrixLemmas
+pub mod Woven

@@ -1,0 +1,170 @@
+use Rattle.std.proofs.Common.{◌≡◌, ◌+◌, ◌*◌, ◌<◌, ◌∷◌, ◌++◌, [], ℕ, List, length, map, refl, ap, sym, ◌∙◌, subst, arith}
+use Rattle.std.proofs.lemmas.List.{map_push}
+use Rattle.gate_set.specs.Shape.{IsOn}
+use Rattle.circuit_model.specs.Working.{FitsWidth}
+use Rattle.comparison.specs.Products.{Step, gate_of, raw_matrix, work_matrix, RawStepFits}
+use Rattle.diagram_model.specs.Stores.{Diagram}
+use Rattle.slice_quad.specs.declared.quad.SliceQuad.{SliceQuad}
+use Rattle.slice_quad.specs.Stepping.{IsWork}
+use Rattle.slice_quad.specs.Stops.{OnWidth, QuadStopIs}
+use Rattle.slice_quad.specs.Vectors.{Stands}
+use Rattle.unitary_update.specs.declared.accepted.MatrixStep.{MatrixStep}
+use Rattle.unitary_update.specs.Kept.{State, Standing, IsKept, standing_of, with_step, step_in, sliced_step}
+use Rattle.unitary_update.proofs.MatrixLemmas.{size_of_order, state_with, kept_next, kept_stop, shows_on, keeps_on, fits_state, state_fits}
+use Rattle.unitary_update.proofs.matrix.SlicedMatrix.accept.Goals as goal
+
+pub multiply-requires-clause-variables : goal.multiply-requires-clause-variables
+multiply-requires-clause-variables c =
+    let s = c.self.inside in let t : Step = step_in c.args.factor in
+    let shown : State = state_with s.qubits s.rules (map step_in s.steps.items) s.diagrams s.quad in
+    let h = c.self.invariant in
+    let w = work_matrix s.qubits (map step_in s.steps.items) in
+    size_of_order s.diagrams.store.order (2 * s.qubits) h.order
+
+pub multiply-requires-clause-on : goal.multiply-requires-clause-on
+multiply-requires-clause-on c =
+    let s = c.self.inside in let t : Step = step_in c.args.factor in
+    let shown : State = state_with s.qubits s.rules (map step_in s.steps.items) s.diagrams s.quad in
+    let h = c.self.invariant in
+    let w = work_matrix s.qubits (map step_in s.steps.items) in
+    subst (λ (m : State). IsOn m.qubits (gate_of t)) (sym c.self.view_is) c.requires.within
+
+pub invariant_of-self-in-Ok : goal.invariant_of-self-in-Ok
+invariant_of-self-in-Ok c =
+    let s = c.self.inside in let t : Step = step_in c.args.factor in
+    let shown : State = state_with s.qubits s.rules (map step_in s.steps.items) s.diagrams s.quad in
+    let h = c.self.invariant in
+    let w = work_matrix s.qubits (map step_in s.steps.items) in
+    let u = s.diagrams in let v = c.multiply.new.d in
+    let grows = c.multiply.ensures.grows in
+    let items : c.push_reserved.new.self.items ≡ s.steps.items ++ c.args.factor ∷ [] = c.push_reserved.ensures.items ∙ ap (λ (l : List MatrixStep). l ++ c.args.factor ∷ []) c.reserve.ensures.items in
+    let steps : map step_in c.push_reserved.new.self.items ≡ map step_in s.steps.items ++ t ∷ [] = ap (map step_in) items ∙ map_push step_in s.steps.items c.args.factor in
+    let few : length (map step_in s.steps.items) < 2000000 = subst (λ (m : State). length m.steps < 2000000) (sym c.self.view_is) c.requires.few in
+    let narrow = c.in-Ok.ensures.narrow in let width = c.width-width.ensures.value in
+    kept_next shown t (map step_in c.push_reserved.new.self.items) v c.multiply.new.q h few steps grows.sound grows.extends.order grows.extends.limit c.multiply.ensures.stands
+    (c.in-Ok.ensures.shown w h.shows) c.in-Ok.ensures.raised (omega (arith, narrow, width))
+    (keeps_on s.qubits u v (IsWork u.store (sliced_step s.qubits t) s.quad) s.quad c.multiply.new.q grows h.stands c.multiply.ensures.kept h.kept)
+
+pub returns-in-Ok-clause-accepts : goal.returns-in-Ok-clause-accepts
+returns-in-Ok-clause-accepts c =
+    let s = c.self.inside in let t : Step = step_in c.args.factor in
+    let shown : State = state_with s.qubits s.rules (map step_in s.steps.items) s.diagrams s.quad in
+    let h = c.self.invariant in
+    let w = work_matrix s.qubits (map step_in s.steps.items) in
+    let u = s.diagrams in let v = c.multiply.new.d in
+    let grows = c.multiply.ensures.grows in
+    let items : c.push_reserved.new.self.items ≡ s.steps.items ++ c.args.factor ∷ [] = c.push_reserved.ensures.items ∙ ap (λ (l : List MatrixStep). l ++ c.args.factor ∷ []) c.reserve.ensures.items in
+    let steps : map step_in c.push_reserved.new.self.items ≡ map step_in s.steps.items ++ t ∷ [] = ap (map step_in) items ∙ map_push step_in s.steps.items c.args.factor in
+    let fits : RawStepFits s.rules.width s.qubits (map step_in s.steps.items) t = fits_state shown t c.width-width.result c.width-width.ensures.value (c.in-Ok.ensures.fits w h.shows) in
+    let standing : List Step → Standing = λ l. record { qubits = s.qubits; rules = s.rules; steps = l; order = v.store.order } in
+    let later : List ℕ → Standing = λ o. record { qubits = s.qubits; rules = s.rules; steps = map step_in s.steps.items ++ t ∷ []; order = o } in
+    record {
+      fits = subst (λ (m : State). RawStepFits m.rules.width m.qubits m.steps t) c.self.view_is fits;
+      same = ap standing steps ∙ ap later grows.extends.order ∙ ap (λ (m : State). with_step (standing_of m) t) c.self.view_is;
+    }
+
+pub invariant_of-self-in-Err-Width : goal.invariant_of-self-in-Err-Width
+invariant_of-self-in-Err-Width c =
+    let s = c.self.inside in let t : Step = step_in c.args.factor in
+    let shown : State = state_with s.qubits s.rules (map step_in s.steps.items) s.diagrams s.quad in
+    let h = c.self.invariant in
+    let w = work_matrix s.qubits (map step_in s.steps.items) in
+    let u = s.diagrams in let v = c.multiply.new.d in
+    let grows = c.multiply.ensures.grows in
+    let stands : Stands v.store s.quad = subst (λ (q : SliceQuad). Stands v.store q) c.in-Err-Width.ensures.refused c.multiply.ensures.stands in
+    let kept : IsKept (state_with s.qubits s.rules (map step_in s.steps.items) v s.quad) =
+    kept_stop shown v h grows.sound grows.extends.order grows.extends.limit stands (shows_on s.qubits u v (IsWork u.store (sliced_step s.qubits t) s.quad) s.quad w h.sound grows h.stands h.shows)
+    (keeps_on s.qubits u v (IsWork u.store (sliced_step s.qubits t) s.quad) s.quad s.quad grows h.stands refl h.kept) in
+    rw (c.reserve.ensures.items, c.in-Err-Width.ensures.refused) kept
+
+pub returns-in-Err-Width-clause-refused : goal.returns-in-Err-Width-clause-refused
+returns-in-Err-Width-clause-refused c =
+    let s = c.self.inside in let t : Step = step_in c.args.factor in
+    let shown : State = state_with s.qubits s.rules (map step_in s.steps.items) s.diagrams s.quad in
+    let h = c.self.invariant in
+    let w = work_matrix s.qubits (map step_in s.steps.items) in
+    let u = s.diagrams in let v = c.multiply.new.d in
+    let grows = c.multiply.ensures.grows in
+    let standing : List MatrixStep → Standing = λ l. record { qubits = s.qubits; rules = s.rules; steps = map step_in l; order = v.store.order } in
+    let ordered : List ℕ → Standing = λ o. record { qubits = s.qubits; rules = s.rules; steps = map step_in s.steps.items; order = o } in
+    ap standing c.reserve.ensures.items ∙ ap ordered grows.extends.order ∙ ap standing_of c.self.view_is
+
+pub invariant_of-self-in-Err-Full : goal.invariant_of-self-in-Err-Full
+invariant_of-self-in-Err-Full c =
+    let s = c.self.inside in let t : Step = step_in c.args.factor in
+    let shown : State = state_with s.qubits s.rules (map step_in s.steps.items) s.diagrams s.quad in
+    let h = c.self.invariant in
+    let w = work_matrix s.qubits (map step_in s.steps.items) in
+    let u = s.diagrams in let v = c.multiply.new.d in
+    let grows = c.multiply.ensures.grows in
+    let stands : Stands v.store s.quad = subst (λ (q : SliceQuad). Stands v.store q) c.in-Err-Full.ensures.refused c.multiply.ensures.stands in
+    let kept : IsKept (state_with s.qubits s.rules (map step_in s.steps.items) v s.quad) =
+    kept_stop shown v h grows.sound grows.extends.order grows.extends.limit stands (shows_on s.qubits u v (IsWork u.store (sliced_step s.qubits t) s.quad) s.quad w h.sound grows h.stands h.shows)
+    (keeps_on s.qubits u v (IsWork u.store (sliced_step s.qubits t) s.quad) s.quad s.quad grows h.stands refl h.kept) in
+    rw (c.reserve.ensures.items, c.in-Err-Full.ensures.refused) kept
+
+pub returns-in-Err-Full-clause-refused : goal.returns-in-Err-Full-clause-refused
+returns-in-Err-Full-clause-refused c =
+    let s = c.self.inside in let t : Step = step_in c.args.factor in
+    let shown : State = state_with s.qubits s.rules (map step_in s.steps.items) s.diagrams s.quad in
+    let h = c.self.invariant in
+    let w = work_matrix s.qubits (map step_in s.steps.items) in
+    let u = s.diagrams in let v = c.multiply.new.d in
+    let grows = c.multiply.ensures.grows in
+    let standing : List MatrixStep → Standing = λ l. record { qubits = s.qubits; rules = s.rules; steps = map step_in l; order = v.store.order } in
+    let ordered : List ℕ → Standing = λ o. record { qubits = s.qubits; rules = s.rules; steps = map step_in s.steps.items; order = o } in
+    ap standing c.reserve.ensures.items ∙ ap ordered grows.extends.order ∙ ap standing_of c.self.view_is
+
+pub invariant_of-self-in-Err-OutOfMemory : goal.invariant_of-self-in-Err-OutOfMemory
+invariant_of-self-in-Err-OutOfMemory c =
+    let s = c.self.inside in let t : Step = step_in c.args.factor in
+    let shown : State = state_with s.qubits s.rules (map step_in s.steps.items) s.diagrams s.quad in
+    let h = c.self.invariant in
+    let w = work_matrix s.qubits (map step_in s.steps.items) in
+    let u = s.diagrams in let v = c.multiply.new.d in
+    let grows = c.multiply.ensures.grows in
+    let stands : Stands v.store s.quad = subst (λ (q : SliceQuad). Stands v.store q) c.in-Err-OutOfMemory.ensures.refused c.multiply.ensures.stands in
+    let kept : IsKept (state_with s.qubits s.rules (map step_in s.steps.items) v s.quad) =
+    kept_stop shown v h grows.sound grows.extends.order grows.extends.limit stands (shows_on s.qubits u v (IsWork u.store (sliced_step s.qubits t) s.quad) s.quad w h.sound grows h.stands h.shows)
+    (keeps_on s.qubits u v (IsWork u.store (sliced_step s.qubits t) s.quad) s.quad s.quad grows h.stands refl h.kept) in
+    rw (c.reserve.ensures.items, c.in-Err-OutOfMemory.ensures.refused) kept
+
+pub returns-in-Err-Width-clause-stops : goal.returns-in-Err-Width-clause-stops
+returns-in-Err-Width-clause-stops c =
+    let s = c.self.inside in let t : Step = step_in c.args.factor in
+    let shown : State = state_with s.qubits s.rules (map step_in s.steps.items) s.diagrams s.quad in
+    let h = c.self.invariant in
+    let w = work_matrix s.qubits (map step_in s.steps.items) in
+    let u = s.diagrams in let v = c.multiply.new.d in
+    let grows = c.multiply.ensures.grows in
+    let n = s.qubits in
+    let unfit : ¬ FitsWidth (n + n) c.width-width.result (raw_matrix n w t).entries = subst (OnWidth (¬ FitsWidth (n + n) c.width-width.result (raw_matrix n w t).entries)) c.in-Err-Width.field-0-is (c.in-Err-Width.ensures.width w h.shows) in
+    let number = ap (λ (k : ℕ). k + 1) c.accepted-number.ensures.value in
+    let wide : ¬ RawStepFits s.rules.width n (map step_in s.steps.items) t = λ fits. unfit (state_fits shown t c.width-width.result c.width-width.ensures.value fits) in
+    (number, subst (λ (m : State). ¬ RawStepFits m.rules.width m.qubits m.steps t) c.self.view_is wide)
+
+pub returns-in-Err-Full-clause-stops : goal.returns-in-Err-Full-clause-stops
+returns-in-Err-Full-clause-stops c =
+    let s = c.self.inside in let t : Step = step_in c.args.factor in
+    let shown : State = state_with s.qubits s.rules (map step_in s.steps.items) s.diagrams s.quad in
+    let h = c.self.invariant in
+    let w = work_matrix s.qubits (map step_in s.steps.items) in
+    let u = s.diagrams in let v = c.multiply.new.d in
+    let grows = c.multiply.ensures.grows in
+    let full = subst (QuadStopIs v.store (IsWork u.store (sliced_step s.qubits t) s.quad)) c.in-Err-Full.field-0-is c.in-Err-Full.ensures.full in
+    let number = ap (λ (k : ℕ). k + 1) c.accepted-number.ensures.value in
+    let order = c.order.ensures ∙ ap (λ (d : Diagram). d.order) c.store.ensures.value ∙ grows.extends.order ∙ ap (λ (m : State). m.diagrams.store.order) c.self.view_is in
+    let limit = grows.extends.limit ∙ h.limit ∙ ap (λ (m : State). m.rules.nodes) c.self.view_is in
+    let told : c.in-Err-Full.held ≡ c.args.self.now.rules.nodes = full.0 ∙ limit in
+    (number, order, told)
+
+pub returns-in-Err-Full-clause-full : goal.returns-in-Err-Full-clause-full
+returns-in-Err-Full-clause-full c =
+    let s = c.self.inside in let t : Step = step_in c.args.factor in
+    let shown : State = state_with s.qubits s.rules (map step_in s.steps.items) s.diagrams s.quad in
+    let h = c.self.invariant in
+    let w = work_matrix s.qubits (map step_in s.steps.items) in
+    let u = s.diagrams in let v = c.multiply.new.d in
+    let grows = c.multiply.ensures.grows in
+    let full = subst (QuadStopIs v.store (IsWork u.store (sliced_step s.qubits t) s.quad)) c.in-Err-Full.field-0-is c.in-Err-Full.ensures.full in
+    full.1.full

@@ -1,0 +1,26 @@
+use Rattle.std.proofs.Common.{◌≡◌, ◌∙◌, sym, subst}
+use Rattle.std.specs.Prelude.{IfErr, OnOk}
+use Rattle.std.proofs.Math.Path.{ap₂}
+use Rattle.gate_set.specs.declared.gate.Gate.{Gate}
+use Rattle.gate_set.specs.Shape.{IsOn}
+use Rattle.comparison.specs.Products.Step.{right}
+use Rattle.unitary_update.specs.Kept.{standing_of, Accepts, StopMeans}
+use Rattle.unitary_update.proofs.matrix.SlicedMatrix.right.Goals as goal
+
+pub accept-requires-clause-within : goal.accept-requires-clause-within
+accept-requires-clause-within c =
+    let g : Gate = c.args.gate.now in
+    let same : c.new-factor.result ≡ g = c.new-factor.ensures.value ∙ ap₂ (λ k o. let p : Gate = record { kind = k; on = o } in p) c.kind.ensures.kind c.on.ensures.on in
+    subst (λ (p : Gate). IsOn c.args.self.now.qubits p) (sym same) c.requires.within
+
+pub returns-clause-accepts : goal.returns-clause-accepts
+returns-clause-accepts c =
+    let g : Gate = c.args.gate.now in
+    let same : c.new-factor.result ≡ g = c.new-factor.ensures.value ∙ ap₂ (λ k o. let p : Gate = record { kind = k; on = o } in p) c.kind.ensures.kind c.on.ensures.on in
+    subst (λ (p : Gate). OnOk c.accept.result (Accepts (standing_of c.args.self.now) (right p) (standing_of c.accept.new.self))) same c.accept.ensures.accepts
+
+pub returns-clause-stops : goal.returns-clause-stops
+returns-clause-stops c =
+    let g : Gate = c.args.gate.now in
+    let same : c.new-factor.result ≡ g = c.new-factor.ensures.value ∙ ap₂ (λ k o. let p : Gate = record { kind = k; on = o } in p) c.kind.ensures.kind c.on.ensures.on in
+    subst (λ (p : Gate). IfErr c.accept.result (StopMeans (standing_of c.args.self.now) (right p))) same c.accept.ensures.stops

@@ -1,0 +1,69 @@
+use Rattle.std.proofs.Common.{rules, ◌+◌, length, subst, arith}
+use Rattle.circuit_model.specs.Working.{FitsWidth}
+use Rattle.comparison.specs.Products.{Step, raw_matrix}
+use Rattle.slice_quad.specs.declared.kind.Step.{Step as SlicedStep}
+use Rattle.slice_quad.specs.Stepping.{IsWork}
+use Rattle.slice_quad.specs.Stops.{OnWidth, QuadStopIs}
+use Rattle.slice_vec.specs.Growing.{Grows}
+use Rattle.unitary_update.specs.Kept.{step_in, sliced_step}
+use Rattle.unitary_update.specs.Sided.{IsSided}
+use Rattle.unitary_update.proofs.MatrixLemmas.{sided_value, within_store, one_half, shows_next, raised, fits_shown, unfit_shown}
+use Rattle.unitary_update.proofs.multiplying.multiply.Goals as goal
+
+pub step-requires-clause-on : goal.step-requires-clause-on
+step-requires-clause-on c =
+    let u = c.args.d.now in let q = c.args.q.now in let n = c.args.qubits in let t : Step = step_in c.args.factor.now in
+    let s = c.sided-s.result in let is : IsSided n t s = c.sided-s.ensures in
+    within_store (length u.store.order) n t s c.requires.variables is
+
+pub step-requires-clause-exponent : goal.step-requires-clause-exponent
+step-requires-clause-exponent c =
+    let u = c.args.d.now in let q = c.args.q.now in let n = c.args.qubits in let t : Step = step_in c.args.factor.now in
+    let s = c.sided-s.result in let is : IsSided n t s = c.sided-s.ensures in
+    let half = one_half n t s is in omega (arith, half)
+
+pub returns-in_err-step-clause-width : goal.returns-in_err-step-clause-width
+returns-in_err-step-clause-width c w shown =
+    let u = c.args.d.now in let q = c.args.q.now in let n = c.args.qubits in let t : Step = step_in c.args.factor.now in
+    let s = c.sided-s.result in let is : IsSided n t s = c.sided-s.ensures in
+    let unfit : OnWidth (¬ FitsWidth (n + n) c.args.width (raw_matrix n w t).entries) c.in_err-step.field-0.0 =
+    unfit_shown n c.args.width u.store q w t s c.cached-cached.ensures.sound.store c.requires.variables shown is c.in_err-step.field-0.0 c.in_err-step.ensures.width in
+    search rules
+
+pub returns-in_err-step-clause-full : goal.returns-in_err-step-clause-full
+returns-in_err-step-clause-full c =
+    let u = c.args.d.now in let q = c.args.q.now in let n = c.args.qubits in let t : Step = step_in c.args.factor.now in
+    let s = c.sided-s.result in let is : IsSided n t s = c.sided-s.ensures in
+    let stop : QuadStopIs c.step.new.d.store (IsWork u.store (sliced_step n t) q) c.in_err-step.field-0.0 =
+    subst (λ (k : SlicedStep). QuadStopIs c.step.new.d.store (IsWork u.store k q) c.in_err-step.field-0.0) (sided_value n t s is) c.in_err-step.ensures.full in
+    search rules
+
+pub returns-in_err-step-clause-grows : goal.returns-in_err-step-clause-grows
+returns-in_err-step-clause-grows c =
+    let u = c.args.d.now in let q = c.args.q.now in let n = c.args.qubits in let t : Step = step_in c.args.factor.now in
+    let s = c.sided-s.result in let is : IsSided n t s = c.sided-s.ensures in
+    subst (λ (k : SlicedStep). Grows u (IsWork u.store k q) c.step.new.d) (sided_value n t s is) c.step.ensures.grows
+
+pub returns-clause-shown : goal.returns-clause-shown
+returns-clause-shown c w shown =
+    let u = c.args.d.now in let q = c.args.q.now in let n = c.args.qubits in let t : Step = step_in c.args.factor.now in
+    let s = c.sided-s.result in let is : IsSided n t s = c.sided-s.ensures in
+    shows_next n u.store c.step.new.d.store q c.step.new.q w t s shown is c.step.ensures.grows.sound.store c.step.ensures.grows.extends.order c.requires.variables c.in_ok-step.ensures.settled
+
+pub returns-clause-fits : goal.returns-clause-fits
+returns-clause-fits c w shown =
+    let u = c.args.d.now in let q = c.args.q.now in let n = c.args.qubits in let t : Step = step_in c.args.factor.now in
+    let s = c.sided-s.result in let is : IsSided n t s = c.sided-s.ensures in
+    fits_shown n c.args.width u.store q w t s shown is c.in_ok-step.ensures.fits
+
+pub returns-clause-raised : goal.returns-clause-raised
+returns-clause-raised c =
+    let u = c.args.d.now in let q = c.args.q.now in let n = c.args.qubits in let t : Step = step_in c.args.factor.now in
+    let s = c.sided-s.result in let is : IsSided n t s = c.sided-s.ensures in
+    raised n c.step.new.d.store _ t s q.exponent c.step.new.q is c.in_ok-step.ensures.settled
+
+pub returns-clause-grows : goal.returns-clause-grows
+returns-clause-grows c =
+    let u = c.args.d.now in let q = c.args.q.now in let n = c.args.qubits in let t : Step = step_in c.args.factor.now in
+    let s = c.sided-s.result in let is : IsSided n t s = c.sided-s.ensures in
+    subst (λ (k : SlicedStep). Grows u (IsWork u.store k q) c.step.new.d) (sided_value n t s is) c.step.ensures.grows

@@ -1,0 +1,13 @@
+//! A matrix of up to 64 qubits, multiplied by gates from both sides and kept as integers over decision diagrams.
+#![tactic(auto)]
+
+mod accepted;
+mod matrix;
+mod multiplying;
+mod weaving;
+
+pub use accepted::MatrixStep;
+pub use matrix::SlicedMatrix;
+
+#[cfg(test)]
+mod tests;

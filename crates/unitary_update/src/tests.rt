@@ -1,0 +1,324 @@
+//! Matrices of all kinds of gates from both sides, the order of products, and the limit of the identity.
+ghost use Rattle.std.specs.Prelude.{◌≡◌, ◌≤◌, ◌<◌, ℕ, length};
+ghost use Rattle.gate_set.specs.Matrix.{arity_of};
+ghost use Rattle.gate_set.specs.Shape.{IsOn};
+
+use crate::SlicedMatrix;
+use amp_dense::{Rules, Stop};
+use bit_lists::Bits;
+use gate_set::{Entry, Gate, Kind};
+use ring_omega::Quad;
+use std::alloc::Global;
+use std::process::Abort;
+
+const KINDS: [Kind; 18] = [
+    Kind::H,
+    Kind::T,
+    Kind::RxP,
+    Kind::Cx,
+    Kind::RyM,
+    Kind::Tdg,
+    Kind::Cswap,
+    Kind::S,
+    Kind::Y,
+    Kind::Swap,
+    Kind::RxM,
+    Kind::Cz,
+    Kind::Sdg,
+    Kind::Ccx,
+    Kind::RyP,
+    Kind::X,
+    Kind::Z,
+    Kind::Id,
+];
+
+/// Rules with so many nodes.
+fn with_nodes(nodes: u32) -> Rules
+    requires least { 64 ≤ nodes }
+    requires greatest { nodes ≤ 1048576 }
+    ensures { result.nodes ≡ nodes }
+{
+    Rules {
+        width: 128,
+        nodes,
+        cache: 65_536,
+        reclaim: 16,
+        sift: 0,
+    }
+}
+
+/// The identity.
+fn fresh(rt: &impl Abort, alloc: Global, qubits: u8) -> SlicedMatrix
+    requires { qubits ≤ 64 }
+    ensures { result.qubits ≡ qubits }
+{
+    let Ok(matrix) = SlicedMatrix::identity(alloc, qubits, &with_nodes(1_048_576)) else {
+        panic!(rt; "no room");
+    };
+    matrix
+}
+
+/// A gate on qubits 2, 0 and 1 of three, or on the first of them.
+fn placed(alloc: Global, kind: Kind) -> Gate
+    ensures on { IsOn 3 result }
+    ensures kind { result.kind ≡ kind }
+{
+    match kind.arity() {
+        1 => Gate::new(alloc, kind, &[2]),
+        2 => Gate::new(alloc, kind, &[2, 0]),
+        _ => Gate::new(alloc, kind, &[2, 0, 1]),
+    }
+}
+
+/// Multiplies from the left.
+fn left(rt: &impl Abort, alloc: Global, m: &mut SlicedMatrix, gate: &Gate)
+    requires { IsOn m.old.qubits gate.now }
+    ensures { m.new.qubits ≡ m.old.qubits }
+{
+    if m.accepted() >= 2_000_000 {
+        panic!(rt; "too many");
+    }
+    match m.left(alloc, gate) {
+        Ok(()) => {}
+        Err(_) => panic!(rt; "refused"),
+    }
+}
+
+/// Multiplies from the right.
+fn right(rt: &impl Abort, alloc: Global, m: &mut SlicedMatrix, gate: &Gate)
+    requires { IsOn m.old.qubits gate.now }
+    ensures { m.new.qubits ≡ m.old.qubits }
+{
+    if m.accepted() >= 2_000_000 {
+        panic!(rt; "too many");
+    }
+    match m.right(alloc, gate) {
+        Ok(()) => {}
+        Err(_) => panic!(rt; "refused"),
+    }
+}
+
+/// The list of three bits of a number.
+fn three_bits(number: u8) -> Bits
+    ensures { length result ≡ 3 }
+{
+    let mut x = Bits::zeros(3);
+    x.set(0, number & 4 != 0);
+    x.set(1, number & 2 != 0);
+    x.set(2, number & 1 != 0);
+    x
+}
+
+/// The list of one bit.
+fn one_bit(bit: bool) -> Bits
+    ensures { length result ≡ 1 }
+{
+    let mut x = Bits::zeros(1);
+    x.set(0, bit);
+    x
+}
+
+/// A power of ω.
+fn omega(power: u8) -> Quad {
+    match power {
+        0 => Quad {
+            a: 0,
+            b: 0,
+            c: 0,
+            d: 1,
+        },
+        1 => Quad {
+            a: 0,
+            b: 0,
+            c: 1,
+            d: 0,
+        },
+        2 => Quad {
+            a: 0,
+            b: 1,
+            c: 0,
+            d: 0,
+        },
+        3 => Quad {
+            a: 1,
+            b: 0,
+            c: 0,
+            d: 0,
+        },
+        4 => Quad {
+            a: 0,
+            b: 0,
+            c: 0,
+            d: -1,
+        },
+        5 => Quad {
+            a: 0,
+            b: 0,
+            c: -1,
+            d: 0,
+        },
+        6 => Quad {
+            a: 0,
+            b: -1,
+            c: 0,
+            d: 0,
+        },
+        _ => Quad {
+            a: -1,
+            b: 0,
+            c: 0,
+            d: 0,
+        },
+    }
+}
+
+/// The bits of qubits 2, 0 and 1 of a place of three qubits as a row of a matrix of that many, with the bits that it leaves.
+fn part(arity: u8, place: u8) -> (u8, u8)
+    requires some { 1 ≤ arity }
+    requires few { arity ≤ 3 }
+    ensures { (k : ℕ) → k ≡ arity → result.0 < 8 }
+{
+    let first = place & 1;
+    let second = place >> 2 & 1;
+    let third = place >> 1 & 1;
+    match arity {
+        1 => (first, 2 * second + third),
+        2 => (2 * first + second, third),
+        _ => (4 * first + 2 * second + third, 0),
+    }
+}
+
+/// The entry of the gate's matrix in this row and column.
+fn table_entry(gate: &Gate, row: u8, column: u8) -> Quad {
+    if row >= gate.side() || column >= gate.side() {
+        return Quad::ZERO;
+    }
+    match gate.entry(row, column) {
+        Entry::Zero => Quad::ZERO,
+        Entry::Omega(power) => omega(power),
+    }
+}
+
+/// The entry of the gate on qubits 2, 0 and 1 of three.
+fn expected(gate: &Gate, row: u8, column: u8) -> Quad {
+    let arity = gate.kind().arity();
+    let (r, rest) = part(arity, row);
+    let (c, other) = part(arity, column);
+    if rest == other {
+        table_entry(gate, r, c)
+    } else {
+        Quad::ZERO
+    }
+}
+
+/// The matrix is that of the gate.
+fn expect_gate(rt: &impl Abort, m: &SlicedMatrix, gate: &Gate)
+    requires { m.now.qubits ≡ 3 }
+{
+    assert_eq!(rt;
+        (m.exponent(), m.accepted()),
+        (u32::from(gate.half_power()), 1)
+    );
+    for place in 0..64u8 {
+        let (row, column) = (place / 8, place % 8);
+        assert_eq!(rt;
+            m.entry(&three_bits(row), &three_bits(column)),
+            expected(gate, row, column)
+        );
+    }
+}
+
+#[test]
+fn all_kinds_from_both_sides(rt: HostRuntime) {
+    let alloc = rt.alloc();
+    for kind in KINDS {
+        let gate = placed(alloc, kind);
+        let mut m = fresh(&rt, alloc, 3);
+        left(&rt, alloc, &mut m, &gate);
+        expect_gate(&rt, &m, &gate);
+        let mut m = fresh(&rt, alloc, 3);
+        right(&rt, alloc, &mut m, &gate);
+        expect_gate(&rt, &m, &gate);
+    }
+}
+
+/// The four entries of a matrix on one qubit.
+fn four_entries(m: &SlicedMatrix) -> (Quad, Quad, Quad, Quad)
+    requires { m.now.qubits ≡ 1 }
+{
+    let (zero, one) = (one_bit(false), one_bit(true));
+    (
+        m.entry(&zero, &zero),
+        m.entry(&zero, &one),
+        m.entry(&one, &zero),
+        m.entry(&one, &one),
+    )
+}
+
+#[test]
+fn t_on_both_sides(rt: HostRuntime) {
+    let alloc = rt.alloc();
+    let t = Gate::new(alloc, Kind::T, &[0]);
+    let tdg = Gate::new(alloc, Kind::Tdg, &[0]);
+    let identity = (omega(0), Quad::ZERO, Quad::ZERO, omega(0));
+    let mut m = fresh(&rt, alloc, 1);
+    left(&rt, alloc, &mut m, &t);
+    right(&rt, alloc, &mut m, &tdg);
+    assert_eq!(rt; four_entries(&m), identity);
+    let mut m = fresh(&rt, alloc, 1);
+    right(&rt, alloc, &mut m, &tdg);
+    left(&rt, alloc, &mut m, &t);
+    assert_eq!(rt; four_entries(&m), identity);
+    assert_eq!(rt; (m.exponent(), m.accepted()), (0, 2));
+}
+
+#[test]
+fn x_and_t_in_both_orders(rt: HostRuntime) {
+    let alloc = rt.alloc();
+    let x = Gate::new(alloc, Kind::X, &[0]);
+    let t = Gate::new(alloc, Kind::T, &[0]);
+    let mut m = fresh(&rt, alloc, 1);
+    left(&rt, alloc, &mut m, &x);
+    right(&rt, alloc, &mut m, &t);
+    assert_eq!(rt;
+        four_entries(&m),
+        (Quad::ZERO, omega(1), omega(0), Quad::ZERO)
+    );
+    let mut m = fresh(&rt, alloc, 1);
+    left(&rt, alloc, &mut m, &x);
+    left(&rt, alloc, &mut m, &t);
+    assert_eq!(rt;
+        four_entries(&m),
+        (Quad::ZERO, omega(0), omega(1), Quad::ZERO)
+    );
+}
+
+#[test]
+fn three_nodes_a_qubit(rt: HostRuntime) {
+    let alloc = rt.alloc();
+    let stop = SlicedMatrix::identity(alloc, 22, &with_nodes(65));
+    assert!(rt;
+        matches!(
+            stop,
+            Err(Stop::Nodes {
+                gate: 0,
+                held: 65,
+                ..
+            })
+        )
+    );
+    assert!(rt; SlicedMatrix::identity(alloc, 22, &with_nodes(66)).is_ok());
+    assert!(rt; SlicedMatrix::identity(alloc, 22, &with_nodes(67)).is_ok());
+}
+
+#[test]
+fn sixty_four_qubits(rt: HostRuntime) {
+    let alloc = rt.alloc();
+    let mut m = fresh(&rt, alloc, 64);
+    left(&rt, alloc, &mut m, &Gate::new(alloc, Kind::H, &[63]));
+    right(&rt, alloc, &mut m, &Gate::new(alloc, Kind::H, &[63]));
+    let zeros = Bits::zeros(64);
+    assert_eq!(rt; (m.entry(&zeros, &zeros), m.exponent()), (omega(0), 0));
+    let (diagrams, _quad) = m.parts();
+    assert_eq!(rt; diagrams.store().order().len(), 128);
+}
