@@ -1,3 +1,4 @@
 pub mod Alike
 pub mod Places
 pub mod Rests
+pub mod Stepping

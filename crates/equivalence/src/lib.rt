@@ -2,9 +2,11 @@
 #![tactic(auto)]
 
 mod asking;
+mod comparing;
 mod first;
 mod positions;
 mod verdict;
 
 pub use amp_printer::Verdict;
+pub use comparing::compare;
 pub use verdict::scalar_of;

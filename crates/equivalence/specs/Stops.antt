@@ -1,0 +1,20 @@
+-- What a stop of a comparison says.
+use Rattle.std.specs.Prelude.{◌≡◌, ℕ, zero, suc, ◌*◌, ◌<◌, ◌≤◌, List, length, take}
+use Rattle.std.specs.List.{range_with_len}
+use Rattle.amp_dense.specs.declared.stop.Stop.{Stop}
+use Rattle.amp_dense.specs.declared.stop.Stop.TheVariants.{Width, Nodes, OutOfMemory}
+use Rattle.amp_dense.specs.Rules.{Settings}
+use Rattle.comparison.specs.Products.{Step, AllStepsFit, IsFirstUnfitStep}
+
+-- there may be too few nodes: for the identity, where three a qubit are more than the rules allow, or else at a step of this number,
+-- counted from 1, where the matrix fits the width after each step before it
+abbrev pub MayLackNodes : Settings → ℕ → List Step → ℕ → Type 0
+MayLackNodes rules n steps zero = rules.nodes < 3 * n
+MayLackNodes rules n steps (suc before) = (3 * n ≤ rules.nodes) × (before < length steps) × AllStepsFit rules.width n (take before steps)
+
+-- the step that is named is the first after which the matrix, before any halving, doesn't fit the width; or there are too few nodes for
+-- it, in the natural order, where as many are held as the rules allow
+abbrev pub StopMeans : Settings → ℕ → List Step → Stop → Type 0
+StopMeans rules n steps (Width step) = IsFirstUnfitStep rules.width n steps step
+StopMeans rules n steps (Nodes step order held) = (order ≡ range_with_len 0 (2 * n)) × (held ≡ rules.nodes) × MayLackNodes rules n steps step
+StopMeans rules n steps OutOfMemory = Unit {0}
