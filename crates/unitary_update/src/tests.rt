@@ -58,6 +58,15 @@ fn fresh(rt: &impl Abort, alloc: Global, qubits: u8) -> SlicedMatrix
     matrix
 }
 
+/// A gate on one qubit.
+fn single(alloc: Global, kind: Kind, q: u8) -> Gate
+    requires one { arity_of kind ≡ 1 }
+    requires small { q < 64 }
+    ensures { (n : ℕ) → q < n → IsOn n result }
+{
+    Gate::new(alloc, kind, &[q])
+}
+
 /// A gate on qubits 2, 0 and 1 of three, or on the first of them.
 fn placed(alloc: Global, kind: Kind) -> Gate
     ensures on { IsOn 3 result }
@@ -258,8 +267,8 @@ fn four_entries(m: &SlicedMatrix) -> (Quad, Quad, Quad, Quad)
 #[test]
 fn t_on_both_sides(rt: HostRuntime) {
     let alloc = rt.alloc();
-    let t = Gate::new(alloc, Kind::T, &[0]);
-    let tdg = Gate::new(alloc, Kind::Tdg, &[0]);
+    let t = single(alloc, Kind::T, 0);
+    let tdg = single(alloc, Kind::Tdg, 0);
     let identity = (omega(0), Quad::ZERO, Quad::ZERO, omega(0));
     let mut m = fresh(&rt, alloc, 1);
     left(&rt, alloc, &mut m, &t);
@@ -275,8 +284,8 @@ fn t_on_both_sides(rt: HostRuntime) {
 #[test]
 fn x_and_t_in_both_orders(rt: HostRuntime) {
     let alloc = rt.alloc();
-    let x = Gate::new(alloc, Kind::X, &[0]);
-    let t = Gate::new(alloc, Kind::T, &[0]);
+    let x = single(alloc, Kind::X, 0);
+    let t = single(alloc, Kind::T, 0);
     let mut m = fresh(&rt, alloc, 1);
     left(&rt, alloc, &mut m, &x);
     right(&rt, alloc, &mut m, &t);
@@ -314,9 +323,10 @@ fn three_nodes_a_qubit(rt: HostRuntime) {
 #[test]
 fn sixty_four_qubits(rt: HostRuntime) {
     let alloc = rt.alloc();
+    let h = single(alloc, Kind::H, 63);
     let mut m = fresh(&rt, alloc, 64);
-    left(&rt, alloc, &mut m, &Gate::new(alloc, Kind::H, &[63]));
-    right(&rt, alloc, &mut m, &Gate::new(alloc, Kind::H, &[63]));
+    left(&rt, alloc, &mut m, &h);
+    right(&rt, alloc, &mut m, &h);
     let zeros = Bits::zeros(64);
     assert_eq!(rt; (m.entry(&zeros, &zeros), m.exponent()), (omega(0), 0));
     let (diagrams, _quad) = m.parts();
