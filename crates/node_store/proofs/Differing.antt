@@ -26,14 +26,35 @@ pub coincide_fixed : (d : Diagram) (p : List (Option Bool)) (v f g : ℕ) → Is
 coincide_fixed d p v f g sound lf lg parts x agree =
     value_follow d v f sound lf x ∙ parts (x v) (fits_when (get_or p v None) (x v) (λ b is. agree v b is)) x agree ∙ sym (value_follow d v g sound lg x)
 
-one_of : (d : Diagram) (p : List (Option Bool)) (v f g : ℕ) (b : Bool) → (fits (get_or p v None) false ≡ true → CoincideAt d p (follow d.slots v false f) (follow d.slots v false g)) → (fits (get_or p v None) true ≡ true → CoincideAt d p (follow d.slots v true f) (follow d.slots v true g)) → fits (get_or p v None) b ≡ true → CoincideAt d p (follow d.slots v b f) (follow d.slots v b g)
-one_of d p v f g false low high may = low may
-one_of d p v f g true low high may = high may
+one_of : (d : Diagram) (p : List (Option Bool)) (v f g : ℕ) (b : Bool) → CoincideAt d p (follow d.slots v false f) (follow d.slots v false g) → CoincideAt d p (follow d.slots v true f) (follow d.slots v true g) → CoincideAt d p (follow d.slots v b f) (follow d.slots v b g)
+one_of d p v f g false low high = low
+one_of d p v f g true low high = high
 
--- the two agree where they do for each of both values that the variable may have
-pub coincide_both : (d : Diagram) (p : List (Option Bool)) (v f g i : ℕ) → IsSound d → IsLive d f → IsLive d g → 2 ≤ i → ((k : ℕ) → k < i → fits (get_or p v None) (get_or (false ∷ true ∷ []) k false) ≡ true → CoincideAt d p (follow d.slots v (get_or (false ∷ true ∷ []) k false) f) (follow d.slots v (get_or (false ∷ true ∷ []) k false) g)) → CoincideAt d p f g
+-- the two agree where they do for each of both values of the variable
+pub coincide_both : (d : Diagram) (p : List (Option Bool)) (v f g i : ℕ) → IsSound d → IsLive d f → IsLive d g → 2 ≤ i → ((k : ℕ) → k < i → CoincideAt d p (follow d.slots v (get_or (false ∷ true ∷ []) k false) f) (follow d.slots v (get_or (false ∷ true ∷ []) k false) g)) → CoincideAt d p f g
 coincide_both d p v f g i sound lf lg end done =
-    coincide_fixed d p v f g sound lf lg (λ b may. one_of d p v f g b (done 0 (omega arith)) (done 1 (omega arith)) may)
+    coincide_fixed d p v f g sound lf lg (λ b may. one_of d p v f g b (done 0 (omega arith)) (done 1 (omega arith)))
+
+-- the one value that fits a fixed one
+only_fits : (b c : Bool) → fits (Some b) c ≡ true → c ≡ b
+only_fits true true h = refl
+only_fits false false h = refl
+only_fits true false h = h
+only_fits false true h = sym h
+
+-- the two agree where they do once a variable that p fixes is fixed
+pub coincide_followed : (d : Diagram) (p : List (Option Bool)) (v f g : ℕ) (b : Bool) → IsSound d → IsLive d f → IsLive d g → get_or p v None ≡ Some b → CoincideAt d p (follow d.slots v b f) (follow d.slots v b g) → CoincideAt d p f g
+coincide_followed d p v f g b sound lf lg is same =
+    coincide_fixed d p v f g sound lf lg (λ c may.
+    let e : c ≡ b = only_fits b c (ap (λ o. fits o c) (sym is) ∙ may) in
+    rw e same)
+
+pub fits_fixed : (o : Option Bool) (b : Bool) → o ≡ Some b → fits o b ≡ true
+fits_fixed o true is = ap (λ u. fits u true) is
+fits_fixed o false is = ap (λ u. fits u false) is
+
+pub fits_free : (o : Option Bool) (b : Bool) → o ≡ None → fits o b ≡ true
+fits_free o b is = ap (λ u. fits u b) is
 
 -- the value of a node once its top variable is fixed
 fixed_value : (d : Diagram) (v n : ℕ) (b : Bool) (x : Assignment) → IsSound d → has d.order v ≡ true → IsLiveIn d.slots (from d.order v) n → value d.slots d.order (put x v b) n ≡ value d.slots d.order x (follow d.slots v b n)

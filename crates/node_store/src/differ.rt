@@ -12,7 +12,8 @@ use std::collections::HashSet;
 impl Store {
     /// Whether some bit list that agrees with `p` has different values of `f` and `g`.
     ///
-    /// Takes the time of the pairs of nodes that are met, and goes no deeper than the variables.
+    /// Goes straight down the fixed variables at the top of the order, and no deeper than the variables. Below them it takes the time of the
+    /// pairs of nodes that are met.
     pub fn differ(&self, f: Node, g: Node, p: &Partial) -> Result<bool, OutOfMemory>
         requires f { IsLive self.now f.0 }
         requires g { IsLive self.now g.0 }
@@ -54,19 +55,22 @@ impl Store {
         if f.0 == g.0 {
             return Ok(false);
         }
-        if same.contains(&(f.0, g.0)) {
-            return Ok(false);
-        }
         let Some(var) = self.top_of(f, g, g) else {
             return Ok(true);
         };
+        if let Some(bit) = p.get(var) {
+            let low = self.follow(var, bit, f);
+            let high = self.follow(var, bit, g);
+            return self.differ_from(low, high, p, same);
+        }
+        if !same.is_empty() && same.contains(&(f.0, g.0)) {
+            return Ok(false);
+        }
         for bit in [false, true] {
-            if p.allows(var, bit) {
-                let low = self.follow(var, bit, f);
-                let high = self.follow(var, bit, g);
-                if self.differ_from(low, high, p, same)? {
-                    return Ok(true);
-                }
+            let low = self.follow(var, bit, f);
+            let high = self.follow(var, bit, g);
+            if self.differ_from(low, high, p, same)? {
+                return Ok(true);
             }
         }
         same.insert((f.0, g.0))?;

@@ -1,5 +1,4 @@
-use Rattle.std.proofs.Common.{◌≡◌, ◌+◌, ◌<◌, ℕ, true, false, [], ◌∷◌, get_or, None}
-use Rattle.bit_lists.specs.Partials.{fits}
+use Rattle.std.proofs.Common.{◌≡◌, ◌+◌, ◌<◌, ℕ, true, false, [], ◌∷◌, get_or}
 use Rattle.diagram_model.specs.Nodes.{follow}
 use Rattle.diagram_model.specs.Stores.{depth}
 use Rattle.node_store.specs.Pairs.{AllCoincide, CoincideAt}
@@ -11,5 +10,5 @@ decreases-differ_from l = depth l.self.now l.f.0 + depth l.self.now l.g.0
 abbrev pub invariant-loop-bit : goal.invariant-loop-bit
 invariant-loop-bit l = record {
   same : AllCoincide l.self l.p l.same.keys;
-  done : (k : ℕ) → k < l.bit-index → fits (get_or l.p l.var None) (get_or (false ∷ true ∷ []) k false) ≡ true → CoincideAt l.self l.p (follow l.self.slots l.var (get_or (false ∷ true ∷ []) k false) l.f.0) (follow l.self.slots l.var (get_or (false ∷ true ∷ []) k false) l.g.0);
+  done : (k : ℕ) → k < l.bit-index → CoincideAt l.self l.p (follow l.self.slots l.var (get_or (false ∷ true ∷ []) k false) l.f.0) (follow l.self.slots l.var (get_or (false ∷ true ∷ []) k false) l.g.0);
 }
