@@ -79,6 +79,25 @@ fn of_width(width: u8) -> Rules
     }
 }
 
+/// The list of so many zeros.
+fn zeros_of(len: u8) -> Bits
+    requires { len ≤ 128 }
+    ensures { length result ≡ len }
+{
+    Bits::zeros(len)
+}
+
+/// The state of all zeros.
+pub(crate) fn fresh(rt: &impl Abort, alloc: Global, qubits: u8, rules: &Rules) -> SlicedState
+    requires { qubits ≤ 64 }
+    ensures { length result.input ≡ qubits }
+{
+    let Ok(state) = SlicedState::start(alloc, &Bits::zeros(qubits), rules) else {
+        panic!(rt; "no memory");
+    };
+    state
+}
+
 /// The gate on the first of three qubits, as many as its kind asks for.
 fn placed(alloc: Global, kind: Kind, a: u8, b: u8, c: u8) -> Gate
     requires a { a < 64 }
@@ -93,6 +112,18 @@ fn placed(alloc: Global, kind: Kind, a: u8, b: u8, c: u8) -> Gate
         1 => Gate::new(alloc, kind, &[a]),
         2 => Gate::new(alloc, kind, &[a, b]),
         _ => Gate::new(alloc, kind, &[a, b, c]),
+    }
+}
+
+/// The gate on a qubit of four or more, and on others where its kind asks for more.
+pub(crate) fn single(alloc: Global, kind: Kind, q: u8) -> Gate
+    requires { q < 64 }
+    ensures { (n : ℕ) → q < n → 4 ≤ n → IsOn n result }
+{
+    if q < 2 {
+        placed(alloc, kind, q, 2, 3)
+    } else {
+        placed(alloc, kind, q, 0, 1)
     }
 }
 
@@ -259,14 +290,13 @@ fn are_all_set(x: &Bits) -> bool {
 #[test]
 fn sixty_four_qubits_in_two_states(rt: HostRuntime) {
     let alloc = rt.alloc();
-    let zeros = Bits::zeros(64);
-    let Ok(mut state) = SlicedState::start(alloc, &zeros, &Rules::usual()) else {
-        panic!(rt; "no memory");
-    };
-    let gate = Gate::new(alloc, Kind::H, &[0]);
+    let zeros = zeros_of(64);
+    let mut state = fresh(&rt, alloc, 64, &Rules::usual());
+    let gate = single(alloc, Kind::H, 0);
     assert_eq!(rt; refused_at(alloc, &mut state, &gate), 0);
     for place in 0..63u8 {
-        let gate = Gate::new(alloc, Kind::Cx, &[place, place + 1]);
+        let other = if place < 2 { 3 } else { 0 };
+        let gate = placed(alloc, Kind::Cx, place, place + 1, other);
         assert_eq!(rt; refused_at(alloc, &mut state, &gate), 0);
     }
     assert_eq!(rt; state.accepted(), 64);
@@ -286,7 +316,7 @@ fn sixty_four_qubits_in_two_states(rt: HostRuntime) {
 #[test]
 fn a_full_store_leaves_the_state(rt: HostRuntime) {
     let alloc = rt.alloc();
-    let zeros = Bits::zeros(64);
+    let zeros = zeros_of(64);
     let rules = Rules {
         width: 128,
         nodes: 64,
@@ -294,10 +324,8 @@ fn a_full_store_leaves_the_state(rt: HostRuntime) {
         reclaim: 16,
         sift: 0,
     };
-    let Ok(mut state) = SlicedState::start(alloc, &zeros, &rules) else {
-        panic!(rt; "no memory");
-    };
-    let gate = Gate::new(alloc, Kind::H, &[0]);
+    let mut state = fresh(&rt, alloc, 64, &rules);
+    let gate = single(alloc, Kind::H, 0);
     let stop = state.apply(alloc, &gate);
     assert!(rt;
         matches!(

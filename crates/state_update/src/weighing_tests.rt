@@ -5,6 +5,7 @@ ghost use Rattle.gate_set.specs.Shape.{IsOn};
 ghost use Rattle.probabilities.specs.Outcomes.{measured_count};
 
 use crate::SlicedState;
+use crate::tests::{fresh, single};
 use amp_dense::{Amplitudes, DenseState, Rules};
 use bit_lists::{Bits, Partial};
 use gate_set::{Gate, Kind};
@@ -115,8 +116,8 @@ fn weights_of_four_qubits_both_ways(rt: HostRuntime) {
         place_after(&rt, alloc, &dense, &measured, None)
     );
     if measured_count(&measured) == 2 {
-        for place in 0..4 {
-            let y = Bits::at_place(place, 2);
+        for place in 0..4u8 {
+            let y = Bits::at_place(u128::from(place), 2);
             assert_eq!(rt;
                 place_after(&rt, alloc, &sliced, &measured, Some(&y)),
                 place_after(&rt, alloc, &dense, &measured, Some(&y)),
@@ -130,11 +131,9 @@ fn weights_of_four_qubits_both_ways(rt: HostRuntime) {
 #[test]
 fn weight_of_forty_qubits_at_once(rt: HostRuntime) {
     let alloc = rt.alloc();
-    let Ok(mut state) = SlicedState::start(alloc, &Bits::zeros(40), &Rules::usual()) else {
-        panic!(rt; "no memory");
-    };
+    let mut state = fresh(&rt, alloc, 40, &Rules::usual());
     'qubits: for i in 0..40 {
-        apply(&rt, alloc, &mut state, &Gate::new(alloc, Kind::H, &[i]));
+        apply(&rt, alloc, &mut state, &single(alloc, Kind::H, i));
     }
     let mut p = Partial::free(40);
     p.fix(3, Some(true));
