@@ -1,4 +1,5 @@
 pub mod Ends
+pub mod Enough
 pub mod GateSteps
 pub mod NodeLemmas
 pub mod StateLemmas

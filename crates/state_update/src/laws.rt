@@ -1,5 +1,5 @@
-//! A law of the definitions. The call does nothing: its contract is the law.
-ghost use Rattle.std.specs.Prelude.{◌≤◌, ◌⊎◌, ℕ, Bool, List, length};
+//! Laws of the definitions. Each call does nothing: its contract is the law.
+ghost use Rattle.std.specs.Prelude.{◌≡◌, ◌≤◌, ◌⊎◌, ℕ, ◌+◌, ◌*◌, ◌^◌, Bool, List, length};
 ghost use Rattle.bit_lists.specs.Orders.{AreVars};
 ghost use Rattle.gate_set.specs.declared.gate.Gate.{Gate};
 ghost use Rattle.gate_set.specs.Shape.{IsOn};
@@ -14,4 +14,10 @@ pub fn each_gate_has_an_end()
     ensures begun { (input : List Bool) (rules : Settings) → 2 ≤ rules.width → FitsWidth (length input) rules.width (vector (begun input rules)).entries }
     ensures ends { (s : Standing) (g : Gate) → 2 ≤ s.rules.width → AreVars (length s.order) s.order → IsOn (length s.input) g → FitsWidth (length s.input) s.rules.width (vector s).entries → sliced_policy.may_accept s g ⊎ sliced_policy.may_refuse s g }
     ensures fits { (s : Standing) (g : Gate) → Fits s g → FitsWidth (length s.input) s.rules.width (vector (with_gate s g)).entries }
+{}
+
+/// Where the rules let the diagrams hold (64·(width + 2) + 130)·2^qubits nodes, no gate is refused for want of nodes: it has fewer work functions
+/// than the first factor says, and each of them needs fewer nodes than the second.
+pub fn enough_nodes()
+    ensures { (s : Standing) (g : Gate) → IsOn (length s.input) g → length s.order ≡ length s.input → (64 * (s.rules.width + 2) + 130) * 2 ^ length s.input ≤ s.rules.nodes → ¬ sliced_policy.may_refuse s g }
 {}

@@ -5,7 +5,7 @@ mod laws;
 mod sliced;
 mod weighing;
 
-pub use laws::each_gate_has_an_end;
+pub use laws::{each_gate_has_an_end, enough_nodes};
 pub use sliced::SlicedState;
 
 #[cfg(test)]
