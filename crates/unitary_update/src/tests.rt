@@ -1,4 +1,4 @@
-//! Matrices of all kinds of gates from both sides, the order of products, and the limit of the identity.
+//! Matrices of all kinds of gates from both sides, the order of products, and the limit of the identity and of a step.
 ghost use Rattle.std.specs.Prelude.{◌≡◌, ◌≤◌, ◌<◌, ℕ, length};
 ghost use Rattle.gate_set.specs.Matrix.{arity_of};
 ghost use Rattle.gate_set.specs.Shape.{IsOn};
@@ -47,15 +47,25 @@ fn with_nodes(nodes: u32) -> Rules
     }
 }
 
-/// The identity.
+/// The identity, with so many nodes.
+fn roomy(rt: &impl Abort, alloc: Global, qubits: u8, nodes: u32) -> SlicedMatrix
+    requires few { qubits ≤ 64 }
+    requires least { 64 ≤ nodes }
+    requires greatest { nodes ≤ 1048576 }
+    ensures { result.qubits ≡ qubits }
+{
+    let Ok(matrix) = SlicedMatrix::identity(alloc, qubits, &with_nodes(nodes)) else {
+        panic!(rt; "no room");
+    };
+    matrix
+}
+
+/// The identity, with many nodes.
 fn fresh(rt: &impl Abort, alloc: Global, qubits: u8) -> SlicedMatrix
     requires { qubits ≤ 64 }
     ensures { result.qubits ≡ qubits }
 {
-    let Ok(matrix) = SlicedMatrix::identity(alloc, qubits, &with_nodes(1_048_576)) else {
-        panic!(rt; "no room");
-    };
-    matrix
+    roomy(rt, alloc, qubits, 1_048_576)
 }
 
 /// A gate on one qubit.
@@ -318,6 +328,29 @@ fn three_nodes_a_qubit(rt: HostRuntime) {
     );
     assert!(rt; SlicedMatrix::identity(alloc, 22, &with_nodes(66)).is_ok());
     assert!(rt; SlicedMatrix::identity(alloc, 22, &with_nodes(67)).is_ok());
+}
+
+/// The identity on 21 qubits takes 63 nodes of 64.
+#[test]
+fn a_step_without_room(rt: HostRuntime) {
+    let alloc = rt.alloc();
+    let h = single(alloc, Kind::H, 0);
+    let mut m = roomy(&rt, alloc, 21, 64);
+    if m.accepted() >= 2_000_000 {
+        panic!(rt; "too many");
+    }
+    let stop = m.left(alloc, &h);
+    assert!(rt;
+        matches!(
+            stop,
+            Err(Stop::Nodes {
+                gate: 1,
+                held: 64,
+                ..
+            })
+        )
+    );
+    assert_eq!(rt; (m.accepted(), m.exponent()), (0, 0));
 }
 
 #[test]
