@@ -64,16 +64,19 @@ module _ (n : ℕ) (rules : Settings) (steps : List Step) (t : ℕ) (s : Step) (
       subst (NextNeedsNodes rules n (take t steps)) (sym next) here
 
   pub stops_after : (stop : Stop) → t < length steps → StepStopMeans m s stop → StopMeans rules n steps stop
-  stops_after (Width number) lt h = record {
-    front = take t steps;
-    element = s;
-    rest = rest;
-    split = (take-next steps t s rest next).1.1;
-    count = h.0 ∙ ap (λ l. length l + 1) now.done;
-    before = now.fits;
-    fails = λ fits. h.1
-        (subst (λ (r : Settings). RawStepFits r.width m.qubits m.steps s) (sym now.rules_are) (subst (λ k. RawStepFits rules.width k m.steps s) (sym now.qubits) (subst (λ l. RawStepFits rules.width n l s) (sym now.done) fits)));
-  }
+  stops_after (Width number) lt h = (
+    now.room,
+    record {
+      front = take t steps;
+      element = s;
+      rest = rest;
+      split = (take-next steps t s rest next).1.1;
+      count = h.0 ∙ ap (λ l. length l + 1) now.done;
+      before = now.fits;
+      fails = λ fits. h.1
+          (subst (λ (r : Settings). RawStepFits r.width m.qubits m.steps s) (sym now.rules_are) (subst (λ k. RawStepFits rules.width k m.steps s) (sym now.qubits) (subst (λ l. RawStepFits rules.width n l s) (sym now.done) fits)));
+    },
+  )
   stops_after (Nodes number order held) lt h =
       let long : length m.steps ≡ t = ap length now.done ∙ length-take-le t steps (omega (arith, lt)) in
       let at : number ≡ suc t = h.0 ∙ omega (arith, long) in

@@ -23,9 +23,9 @@ MayLackNodes rules n steps zero = rules.nodes < 3 * n
 MayLackNodes rules n steps (suc before) =
     (3 * n ≤ rules.nodes) × (before < length steps) × AllStepsFit rules.width n (take before steps) × NextNeedsNodes rules n (take before steps) (drop before steps)
 
--- the step that is named is the first after which the matrix, before any halving, doesn't fit the width; or there are too few nodes for
--- it, in the natural order, where as many are held as the rules allow
+-- the step that is named is the first after which the matrix, before any halving, doesn't fit the width, and the identity had its nodes; or
+-- there are too few nodes for it, in the natural order, where as many are held as the rules allow
 abbrev pub StopMeans : Settings → ℕ → List Step → Stop → Type 0
-StopMeans rules n steps (Width step) = IsFirstUnfitStep rules.width n steps step
+StopMeans rules n steps (Width step) = (3 * n ≤ rules.nodes) × IsFirstUnfitStep rules.width n steps step
 StopMeans rules n steps (Nodes step order held) = (order ≡ range_with_len 0 (2 * n)) × (held ≡ rules.nodes) × MayLackNodes rules n steps step
 StopMeans rules n steps OutOfMemory = Unit {0}

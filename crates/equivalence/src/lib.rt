@@ -10,3 +10,6 @@ mod verdict;
 pub use amp_printer::Verdict;
 pub use comparing::compare;
 pub use verdict::scalar_of;
+
+#[cfg(test)]
+mod tests;

@@ -247,23 +247,23 @@ fn outcome_after<A: Weigh>(
 // The place of the first outcome, and of the one after it, where there is one.
 #[test]
 fn possible_outcomes_in_order(rt: HostRuntime) -> Result<(), Fail> {
-    let rows: [(&[bool], Option<u128>, Option<u128>); 4] = [
-        (&[false, false, false], Some(0), Some(5)),
-        (&[true, false, true], Some(0), Some(3)),
-        (&[false, true, false], Some(0), None),
-        (&[false, true, true], Some(0), Some(1)),
+    let rows: [(&[bool], u128, Option<u128>); 4] = [
+        (&[false, false, false], 0, Some(5)),
+        (&[true, false, true], 0, Some(3)),
+        (&[false, true, false], 0, None),
+        (&[false, true, true], 0, Some(1)),
     ];
     let state = paired(rt.alloc()).ok_or("no state")?;
     for (flags, first, second) in rows {
         let measured = counted(flags);
         if measured.len() == 3 {
-            let y = outcome_after(rt.alloc(), &state, &measured, None);
-            assert_eq!(rt; y.map(|y| y.place()), first, "{flags:?}");
-            if let Some(y) = y {
-                if y.len() == measured_count(&measured) {
-                    let z = outcome_after(rt.alloc(), &state, &measured, Some(&y));
-                    assert_eq!(rt; z.map(|z| z.place()), second, "{flags:?}");
-                }
+            let Some(y) = outcome_after(rt.alloc(), &state, &measured, None) else {
+                panic!(rt; "no outcome of {flags:?}");
+            };
+            assert_eq!(rt; y.place(), first, "{flags:?}");
+            if y.len() == measured_count(&measured) {
+                let z = outcome_after(rt.alloc(), &state, &measured, Some(&y));
+                assert_eq!(rt; z.map(|z| z.place()), second, "{flags:?}");
             }
         }
     }

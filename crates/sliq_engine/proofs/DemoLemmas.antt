@@ -26,6 +26,7 @@ use Rattle.sliq_engine.specs.Private.{cause_of_sending}
 use Rattle.sliq_engine.specs.Laws.{IsNoFault, IsSure}
 use Rattle.sliq_engine.proofs.Endings.{ends_first, ends_after, ends_sending}
 use Rattle.sliq_engine.proofs.StepLemmas.{one_reads, some_reads}
+use Rattle.sliq_engine.proofs.SomeEnds.{some_behind, read_on_zeros}
 use Rattle.sliq_engine.proofs.SlicedWalks.{one_simulates, some_simulates}
 
 pub one_demonstrates : (rules : Settings) (q n seed : ℕ) → HasOneEnd IsSure (Demonstrates rules q n seed)
@@ -34,10 +35,10 @@ one_demonstrates rules q n seed =
     (λ c. one_after IsSure _ _ (one_simulates rules (zeros c.qubits) c.gates)
     (λ _. one_hands_on IsSure _))
 
-pub some_demonstrates : (rules : Settings) (q n seed : ℕ) → HasSomeEnd IsNoFault (Demonstrates rules q n seed)
-some_demonstrates rules q n seed =
-    some_after IsNoFault _ _ (some_reads 1 (demo_text q n seed))
-    (λ c. some_after IsNoFault _ _ (some_simulates rules (zeros c.qubits) c.gates)
+pub some_demonstrates : (rules : Settings) (q n seed : ℕ) → 2 ≤ rules.width → HasSomeEnd IsNoFault (Demonstrates rules q n seed)
+some_demonstrates rules q n seed wide =
+    some_behind IsNoFault (Reads 1 (demo_text q n seed)) _ (some_reads 1 (demo_text q n seed))
+    (λ c reads. some_after IsNoFault _ _ (some_simulates rules (zeros c.qubits) c.gates wide (read_on_zeros 1 (demo_text q n seed) c reads))
     (λ _. some_hands_on IsNoFault _))
 
 -- the summary of a circuit, from what its working vector stands by

@@ -5,7 +5,7 @@ use Rattle.phases.specs.Phases.{Phase, ◌>>=◌, HandsOn}
 use Rattle.sliq_engine.specs.declared.output.SendStop.{SendStop}
 use Rattle.sliq_engine.specs.declared.output.SendStop.TheVariants as sends
 use Rattle.sliq_engine.specs.declared.cause.Cause.{Cause}
-use Rattle.sliq_engine.specs.declared.cause.Cause.TheVariants.{Done, Differs, BadWords, ReadFault, TooLong, Refused, Unbuilt, QubitsDiffer, Width, Nodes, WeightTooWide, WriteFault, OutOfMemory}
+use Rattle.sliq_engine.specs.declared.cause.Cause.TheVariants.{Done, Differs, BadWords, ReadFault, TooLong, Refused, QubitsDiffer, Width, Nodes, WeightTooWide, WriteFault, OutOfMemory}
 use Rattle.sliq_engine.specs.Steps.{Output}
 use Rattle.sliq_engine.specs.Ending.{MayEnd, MayStopBy}
 use Rattle.sliq_engine.specs.Private.{cause_of_sending}
@@ -21,7 +21,6 @@ module _ {X : Type 0} (first : Phase X Cause) (next : X → Phase Output Cause) 
   ends_first ReadFault out h = ((Err ReadFault, h, refl), refl)
   ends_first (TooLong file) out h = ((Err (TooLong file), h, refl), refl)
   ends_first (Refused file r) out h = ((Err (Refused file r), h, refl), refl)
-  ends_first (Unbuilt file) out h = ((Err (Unbuilt file), h, refl), refl)
   ends_first (QubitsDiffer m n) out h = ((Err (QubitsDiffer m n), h, refl), refl)
   ends_first (Width step) out h = ((Err (Width step), h, refl), refl)
   ends_first (Nodes step order held) out h = ((Err (Nodes step order held), h, refl), refl)
@@ -38,7 +37,6 @@ module _ {X : Type 0} (first : Phase X Cause) (next : X → Phase Output Cause) 
   ends_after x ReadFault old new f h = ((Ok x, f, h.0), h.1)
   ends_after x (TooLong file) old new f h = ((Ok x, f, h.0), h.1)
   ends_after x (Refused file r) old new f h = ((Ok x, f, h.0), h.1)
-  ends_after x (Unbuilt file) old new f h = ((Ok x, f, h.0), h.1)
   ends_after x (QubitsDiffer m n) old new f h = ((Ok x, f, h.0), h.1)
   ends_after x (Width step) old new f h = ((Ok x, f, h.0), h.1)
   ends_after x (Nodes step order held) old new f h = ((Ok x, f, h.0), h.1)
@@ -55,7 +53,6 @@ stops_also phase also each BadWords h = each BadWords h
 stops_also phase also each ReadFault h = each ReadFault h
 stops_also phase also each (TooLong file) h = each (TooLong file) h
 stops_also phase also each (Refused file r) h = each (Refused file r) h
-stops_also phase also each (Unbuilt file) h = each (Unbuilt file) h
 stops_also phase also each (QubitsDiffer m n) h = each (QubitsDiffer m n) h
 stops_also phase also each (Width step) h = each (Width step) h
 stops_also phase also each (Nodes step order held) h = each (Nodes step order held) h

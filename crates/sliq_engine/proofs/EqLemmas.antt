@@ -1,69 +1,87 @@
 -- How `eq` ends, exit by exit, and that it has one end.
-use Rattle.std.proofs.Common.{◌≡◌, ◌⊎◌, inl, inr, ◌↔◌, ℕ, ◌<◌, List, Option, Result, Ok, Err, All, refl, sym, ◌∙◌, ap, subst}
+use Rattle.std.proofs.Common.{◌≡◌, ◌⊎◌, inl, inr, ◌↔◌, ℕ, zero, suc, ◌*◌, ◌<◌, ◌≤◌, List, Option, Result, Ok, Err, All, refl, sym, ◌∙◌, ap, ap₂, subst, arith}
+use Rattle.std.specs.List.{range_with_len}
+use Rattle.std.proofs.lemmas.Bool.{cases_lt}
 use Rattle.ring_omega.specs.declared.quad.Quad.{Quad}
 use Rattle.gate_set.specs.Circuits.{Circuit, IsCircuit}
 use Rattle.gate_set.specs.Shape.{IsOn}
 use Rattle.circuit_model.specs.Product.{exponent}
 use Rattle.circuit_model.proofs.PrefixLemmas.{first_failing-apart, one_first_failing}
 use Rattle.amp_dense.specs.Rules.{Settings}
+use Rattle.amp_dense.specs.declared.stop.Stop.{Stop}
+use Rattle.amp_dense.specs.declared.stop.Stop.TheVariants as stops
 use Rattle.amp_printer.specs.declared.verdict.Verdict.{Verdict}
 use Rattle.amp_printer.specs.declared.verdict.Verdict.TheVariants as verdicts
 use Rattle.amp_printer.specs.Verdicts.{verdict_text}
 use Rattle.comparison.specs.Scalars.{AreSame, comparison, compared}
-use Rattle.comparison.specs.Products.{RawStepFits, AllStepsFit, IsFirstUnfitStep}
+use Rattle.comparison.specs.Products.{Step, RawStepFits, AllStepsFit, IsFirstUnfitStep}
 use Rattle.comparison.specs.Steps.{steps_of}
 use Rattle.comparison.specs.Verdicts.{IsVerdict}
 use Rattle.comparison.proofs.Fits.{steps_fit_or_first_unfit}
 use Rattle.comparison.proofs.Verdicts.{one_verdict, some_verdict, scalar_told}
-use Rattle.dense_matrix.specs.declared.comparing.MatrixStop.{MatrixStop}
-use Rattle.dense_matrix.specs.declared.comparing.MatrixStop.TheVariants as matrices
-use Rattle.dense_matrix.specs.Stops.{StopMeans}
+use Rattle.equivalence.specs.Stops.{StopMeans}
 use Rattle.outside.specs.Bytes.{Added, AddedSome}
-use Rattle.phases.specs.Phases.{HasOneEnd, HasSomeEnd, ◌>>=◌, StopsWhere}
-use Rattle.phases.proofs.Ends.{one_after, one_stops_where, some_after}
+use Rattle.phases.specs.Phases.{HasOneEnd, HasSomeEnd, ◌>>=◌}
+use Rattle.phases.proofs.Ends.{one_after, one_stops_where, one_told, some_after, some_stops_where}
 use Rattle.sliq_engine.specs.declared.output.SendStop.{SendStop}
 use Rattle.sliq_engine.specs.declared.output.SendStop.TheVariants as sends
 use Rattle.sliq_engine.specs.declared.cause.Cause.{Cause}
-use Rattle.sliq_engine.specs.declared.cause.Cause.TheVariants.{Done, Differs, Unbuilt, Width}
-use Rattle.sliq_engine.specs.Steps.{Reads, SameQubits, Output, Writes}
-use Rattle.sliq_engine.specs.Eq.{Multiplies, told_by, Says, Compares}
+use Rattle.sliq_engine.specs.declared.cause.Cause.TheVariants.{Done, Differs, Width, Nodes}
+use Rattle.sliq_engine.specs.Steps.{Reads, SameQubits, cause_of, Output, Writes}
+use Rattle.sliq_engine.specs.Eq.{Begins, MultipliesBy, Multiplies, told_by, Says, Compares}
 use Rattle.sliq_engine.specs.Ending.{MayEnd, MayStopBy}
-use Rattle.sliq_engine.specs.Private.{cause_of_sending, cause_of_matrix}
+use Rattle.sliq_engine.specs.Private.{cause_of_sending}
 use Rattle.sliq_engine.specs.Laws.{IsNoFault, IsSure}
 use Rattle.sliq_engine.proofs.Endings.{ends_first, ends_after}
-use Rattle.sliq_engine.proofs.StepLemmas.{one_reads, some_reads, one_same, some_same, some_built}
+use Rattle.sliq_engine.proofs.StepLemmas.{one_reads, some_reads, one_same, some_same}
 
 -- ---- one end
+one_multiplies_by : (rules : Settings) (n : ℕ) (steps : List Step) → HasOneEnd (λ stop. IsSure (cause_of stop)) (MultipliesBy rules n steps)
+one_multiplies_by rules n steps (Ok a) (Ok b) p q s t = refl
+one_multiplies_by rules n steps (Ok a) (Err (stops.Width j)) p q s t = absurd (first_failing-apart (RawStepFits rules.width n) steps j q p)
+one_multiplies_by rules n steps (Ok a) (Err (stops.Nodes j order held)) p q s t = absurd t
+one_multiplies_by rules n steps (Ok a) (Err stops.OutOfMemory) p q s t = absurd q
+one_multiplies_by rules n steps (Err (stops.Width i)) (Ok b) p q s t = absurd (first_failing-apart (RawStepFits rules.width n) steps i p q)
+one_multiplies_by rules n steps (Err (stops.Width i)) (Err (stops.Width j)) p q s t =
+    ap (λ (k : ℕ). let w : Stop = stops.Width k in let e : Result (Unit {0}) Stop = Err w in e) (one_first_failing (RawStepFits rules.width n) steps i j p q)
+one_multiplies_by rules n steps (Err (stops.Width i)) (Err (stops.Nodes j order held)) p q s t = absurd t
+one_multiplies_by rules n steps (Err (stops.Width i)) (Err stops.OutOfMemory) p q s t = absurd q
+one_multiplies_by rules n steps (Err (stops.Nodes i order held)) b p q s t = absurd s
+one_multiplies_by rules n steps (Err stops.OutOfMemory) b p q s t = absurd p
+
 one_multiplies : (rules : Settings) (u v : Circuit) → HasOneEnd IsSure (Multiplies rules u v)
-one_multiplies rules u v (Ok a) (Ok b) p q s t = refl
-one_multiplies rules u v (Ok a) (Err c) p q s t = absurd (first_failing-apart (RawStepFits rules.width u.qubits) (steps_of u.gates v.gates) q.0 q.1 p)
-one_multiplies rules u v (Err c) (Ok b) p q s t = absurd (first_failing-apart (RawStepFits rules.width u.qubits) (steps_of u.gates v.gates) p.0 p.1 q)
-one_multiplies rules u v (Err c) (Err d) p q s t =
-    let same = one_first_failing (RawStepFits rules.width u.qubits) (steps_of u.gates v.gates) p.0 q.0 p.1 q.1 in
-    ap Err (p.2 ∙ ap (λ (n : ℕ). Width n) same ∙ sym q.2)
+one_multiplies rules u v =
+    one_told IsSure cause_of (MultipliesBy rules u.qubits (steps_of u.gates v.gates)) (one_multiplies_by rules u.qubits (steps_of u.gates v.gates))
 
 one_says : (u v : Circuit) → HasOneEnd IsSure (Says u v)
 one_says u v a b p q s t =
     let same = one_verdict u.qubits (compared u.gates v.gates) (exponent (comparison u.gates v.gates)) p.0 q.0 p.1 q.1 in
     p.2 ∙ ap (λ (w : Verdict). let o : Output = record { cause = told_by w; bytes = verdict_text w } in let r : Result Output Cause = Ok o in r) same ∙ sym q.2
 
+one_begins : (rules : Settings) (u : Circuit) → HasOneEnd IsSure (Begins rules u)
+one_begins rules u = one_stops_where IsSure (rules.nodes < 3 * u.qubits) (Nodes 0 (range_with_len 0 (2 * u.qubits)) rules.nodes)
+
 pub one_compares : (rules : Settings) (one two : List ℕ) → HasOneEnd IsSure (Compares rules one two)
 one_compares rules one two =
     one_after IsSure _ _ (one_reads 1 one)
     (λ u. one_after IsSure _ _ (one_reads 2 two)
-    (λ v. one_after IsSure _ _ (one_stops_where IsSure (6 < u.qubits) (Unbuilt 1))
-    (λ _. one_after IsSure _ _ (one_stops_where IsSure (6 < v.qubits) (Unbuilt 2))
-    (λ _. one_after IsSure _ _ (one_same u.qubits v.qubits)
-    (λ _. one_after IsSure _ _ (one_multiplies rules u v) (λ _. one_says u v))))))
+    (λ v. one_after IsSure _ _ (one_same u.qubits v.qubits)
+    (λ _. one_after IsSure _ _ (one_begins rules u)
+    (λ _. one_after IsSure _ _ (one_multiplies rules u v) (λ _. one_says u v)))))
 
 -- ---- some end
+some_begins : (rules : Settings) (u : Circuit) → HasSomeEnd IsNoFault (Begins rules u)
+some_begins rules u =
+    some_stops_where IsNoFault (rules.nodes < 3 * u.qubits) (Nodes 0 (range_with_len 0 (2 * u.qubits)) rules.nodes) tt
+    (elim (cases_lt rules.nodes (3 * u.qubits)) [ inl few ↦ inl few | inr room ↦ inr (λ few. omega (arith, room, few)) ])
+
 some_multiplies : (rules : Settings) (u v : Circuit) → HasSomeEnd IsNoFault (Multiplies rules u v)
 some_multiplies rules u v = by (steps_fit_or_first_unfit rules.width u.qubits (steps_of u.gates v.gates))
   where
     by : AllStepsFit rules.width u.qubits (steps_of u.gates v.gates) ⊎ ((number : ℕ) × IsFirstUnfitStep rules.width u.qubits (steps_of u.gates v.gates) number)
         → HasSomeEnd IsNoFault (Multiplies rules u v)
     by (inl all) = (Ok tt, all, tt)
-    by (inr first) = (Err (Width first.0), (first.0, first.1, refl), tt)
+    by (inr first) = (Err (Width first.0), (stops.Width first.0, first.1, refl), tt)
 
 some_says : (u v : Circuit) → HasSomeEnd IsNoFault (Says u v)
 some_says u v =
@@ -74,16 +92,9 @@ pub some_compares : (rules : Settings) (one two : List ℕ) → HasSomeEnd IsNoF
 some_compares rules one two =
     some_after IsNoFault _ _ (some_reads 1 one)
     (λ u. some_after IsNoFault _ _ (some_reads 2 two)
-    (λ v. some_after IsNoFault _ _ (some_built 6 u.qubits 1)
-    (λ _. some_after IsNoFault _ _ (some_built 6 v.qubits 2)
-    (λ _. some_after IsNoFault _ _ (some_same u.qubits v.qubits)
-    (λ _. some_after IsNoFault _ _ (some_multiplies rules u v) (λ _. some_says u v))))))
-
--- ---- the stop of a comparison, as it is told
-pub comparison_stops : (rules : Settings) (u v : Circuit) (stop : MatrixStop) → StopMeans rules.width u.qubits (steps_of u.gates v.gates) stop
-    → MayStopBy (Multiplies rules u v) (cause_of_matrix stop)
-comparison_stops rules u v (matrices.Width step) h = (step, h, refl)
-comparison_stops rules u v matrices.OutOfMemory h = tt
+    (λ v. some_after IsNoFault _ _ (some_same u.qubits v.qubits)
+    (λ _. some_after IsNoFault _ _ (some_begins rules u)
+    (λ _. some_after IsNoFault _ _ (some_multiplies rules u v) (λ _. some_says u v)))))
 
 -- ---- how it ends
 module _ (rules : Settings) (one two : List ℕ) where
@@ -97,79 +108,70 @@ module _ (rules : Settings) (one two : List ℕ) where
     eq_refused_second cause out h = ends_after (Reads 1 one) _ u cause out out first (ends_first (Reads 2 two) _ cause out h)
 
     module _ (v : Circuit) (second : Reads 2 two (Ok v)) where
-      -- the first circuit has too many qubits
-      pub eq_unbuilt : (cause : Cause) (out : Option (List ℕ)) → MayStopBy (StopsWhere (6 < u.qubits) (Unbuilt 1)) cause → MayEnd (Compares rules one two) cause out out
-      eq_unbuilt cause out h =
+      -- the numbers of qubits differ
+      pub eq_unlike : (cause : Cause) (out : Option (List ℕ)) → MayStopBy (SameQubits u.qubits v.qubits) cause
+          → MayEnd (Compares rules one two) cause out out
+      eq_unlike cause out h =
           ends_after (Reads 1 one) _ u cause out out first
           (ends_after (Reads 2 two) _ v cause out out second
-          (ends_first (StopsWhere (6 < u.qubits) (Unbuilt 1)) _ cause out h))
+          (ends_first (SameQubits u.qubits v.qubits) _ cause out h))
 
-      module _ (small : ¬ (6 < u.qubits)) where
-        -- the second one has
-        pub eq_unbuilt_second : (cause : Cause) (out : Option (List ℕ)) → MayStopBy (StopsWhere (6 < v.qubits) (Unbuilt 2)) cause → MayEnd (Compares rules one two) cause out out
-        eq_unbuilt_second cause out h =
-            ends_after (Reads 1 one) _ u cause out out first
-            (ends_after (Reads 2 two) _ v cause out out second
-            (ends_after (StopsWhere (6 < u.qubits) (Unbuilt 1)) _ tt cause out out small
-            (ends_first (StopsWhere (6 < v.qubits) (Unbuilt 2)) _ cause out h)))
+      module _ (same : u.qubits ≡ v.qubits) where
+        -- the phases before the identity are passed
+        passed : (cause : Cause) (old new : Option (List ℕ)) → MayEnd (Begins rules u >>= (λ _. Multiplies rules u v >>= (λ _. Says u v))) cause old new
+            → MayEnd (Compares rules one two) cause old new
+        passed cause old new h =
+            ends_after (Reads 1 one) _ u cause old new first
+            (ends_after (Reads 2 two) _ v cause old new second
+            (ends_after (SameQubits u.qubits v.qubits) _ tt cause old new (λ ne. ne same) h))
 
-        module _ (small_second : ¬ (6 < v.qubits)) where
-          -- the numbers of qubits differ
-          pub eq_unlike : (cause : Cause) (out : Option (List ℕ)) → MayStopBy (SameQubits u.qubits v.qubits) cause
-              → MayEnd (Compares rules one two) cause out out
-          eq_unlike cause out h =
-              ends_after (Reads 1 one) _ u cause out out first
-              (ends_after (Reads 2 two) _ v cause out out second
-              (ends_after (StopsWhere (6 < u.qubits) (Unbuilt 1)) _ tt cause out out small
-              (ends_after (StopsWhere (6 < v.qubits) (Unbuilt 2)) _ tt cause out out small_second
-              (ends_first (SameQubits u.qubits v.qubits) _ cause out h))))
+        module _ (room : 3 * u.qubits ≤ rules.nodes) where
+          -- the identity has its nodes
+          begun : (cause : Cause) (old new : Option (List ℕ)) → MayEnd (Multiplies rules u v >>= (λ _. Says u v)) cause old new → MayEnd (Compares rules one two) cause old new
+          begun cause old new h = passed cause old new (ends_after (Begins rules u) _ tt cause old new (λ few. omega (arith, room, few)) h)
 
-          module _ (same : u.qubits ≡ v.qubits) where
-            -- the phases before the steps are passed
-            passed : (cause : Cause) (old new : Option (List ℕ)) → MayEnd (Multiplies rules u v >>= (λ _. Says u v)) cause old new → MayEnd (Compares rules one two) cause old new
-            passed cause old new h =
-                ends_after (Reads 1 one) _ u cause old new first
-                (ends_after (Reads 2 two) _ v cause old new second
-                (ends_after (StopsWhere (6 < u.qubits) (Unbuilt 1)) _ tt cause old new small
-                (ends_after (StopsWhere (6 < v.qubits) (Unbuilt 2)) _ tt cause old new small_second
-                (ends_after (SameQubits u.qubits v.qubits) _ tt cause old new (λ ne. ne same) h))))
+        -- a step doesn't fit, or there are too few nodes, or memory was wanted
+        pub eq_halts : (stop : Stop) (out : Option (List ℕ)) → StopMeans rules u.qubits (steps_of u.gates v.gates) stop → MayEnd (Compares rules one two) (cause_of stop) out out
+        eq_halts (stops.Width step) out h =
+            begun h.0 (Width step) out out (ends_first (Multiplies rules u v) _ (Width step) out (stops.Width step, h.1, refl))
+        eq_halts (stops.Nodes zero order held) out h =
+            passed (Nodes 0 order held) out out
+            (ends_first (Begins rules u) _ (Nodes 0 order held) out (h.2, ap₂ (λ (o : List ℕ) (k : ℕ). Nodes 0 o k) h.0 h.1))
+        eq_halts (stops.Nodes (suc before) order held) out h =
+            begun h.2.0 (Nodes (suc before) order held) out out
+            (ends_first (Multiplies rules u v) _ (Nodes (suc before) order held) out (stops.Nodes (suc before) order held, h, refl))
+        eq_halts stops.OutOfMemory out h = inl refl
 
-            -- a step doesn't fit, or memory was wanted
-            pub eq_halts : (stop : MatrixStop) (out : Option (List ℕ)) → StopMeans rules.width u.qubits (steps_of u.gates v.gates) stop
-                → MayEnd (Compares rules one two) (cause_of_matrix stop) out out
-            eq_halts stop out h =
-                passed (cause_of_matrix stop) out out (ends_first (Multiplies rules u v) _ (cause_of_matrix stop) out (comparison_stops rules u v stop h))
+        module _ (room : 3 * u.qubits ≤ rules.nodes) (fits : AllStepsFit rules.width u.qubits (steps_of u.gates v.gates)) (verdict : Verdict)
+            (is : IsVerdict u.qubits (compared u.gates v.gates) (exponent (comparison u.gates v.gates)) verdict) where
+          ended : (cause : Cause) (old new : Option (List ℕ)) → MayEnd (Says u v) cause old new → MayEnd (Compares rules one two) cause old new
+          ended cause old new h = begun room cause old new (ends_after (Multiplies rules u v) _ tt cause old new fits h)
 
-            module _ (fits : AllStepsFit rules.width u.qubits (steps_of u.gates v.gates)) (verdict : Verdict)
-                (is : IsVerdict u.qubits (compared u.gates v.gates) (exponent (comparison u.gates v.gates)) verdict) where
-              ended : (cause : Cause) (old new : Option (List ℕ)) → MayEnd (Says u v) cause old new → MayEnd (Compares rules one two) cause old new
-              ended cause old new h = passed cause old new (ends_after (Multiplies rules u v) _ tt cause old new fits h)
+          abbrev output : Output
+          output = record { cause = told_by verdict; bytes = verdict_text verdict }
 
-              abbrev output : Output
-              output = record { cause = told_by verdict; bytes = verdict_text verdict }
+          -- it stops while the output is sent
+          pub eq_stops : (stop : SendStop) (old new : Option (List ℕ)) → AddedSome old new (verdict_text verdict) → MayEnd (Compares rules one two) (cause_of_sending stop) old new
+          eq_stops stop old new some = ended (cause_of_sending stop) old new (by stop)
+            where
+              by : (stop : SendStop) → MayEnd (Says u v) (cause_of_sending stop) old new
+              by sends.Fault = (output, (verdict, is, refl), some)
+              by sends.OutOfMemory = inr (output, (verdict, is, refl), some)
 
-              -- it stops while the output is sent
-              pub eq_stops : (stop : SendStop) (old new : Option (List ℕ)) → AddedSome old new (verdict_text verdict) → MayEnd (Compares rules one two) (cause_of_sending stop) old new
-              eq_stops stop old new some = ended (cause_of_sending stop) old new (by stop)
-                where
-                  by : (stop : SendStop) → MayEnd (Says u v) (cause_of_sending stop) old new
-                  by sends.Fault = (output, (verdict, is, refl), some)
-                  by sends.OutOfMemory = inr (output, (verdict, is, refl), some)
+          -- the output is written
+          wrote : (cause : Cause) (old new : Option (List ℕ)) → told_by verdict ≡ cause → Added old new (verdict_text verdict)
+              → (bytes : List ℕ) × Says u v (Ok (record { cause = cause; bytes = bytes })) × Added old new bytes
+          wrote cause old new told all = (
+            verdict_text verdict,
+            (verdict, is, ap (λ (k : Cause). let o : Output = record { cause = k; bytes = verdict_text verdict } in let r : Result Output Cause = Ok o in r) (sym told)),
+            all,
+          )
 
-              -- the output is written
-              wrote : (cause : Cause) (old new : Option (List ℕ)) → told_by verdict ≡ cause → Added old new (verdict_text verdict)
-                  → (bytes : List ℕ) × Says u v (Ok (record { cause = cause; bytes = bytes })) × Added old new bytes
-              wrote cause old new told all = (
-                verdict_text verdict,
-                (verdict, is, ap (λ (k : Cause). let o : Output = record { cause = k; bytes = verdict_text verdict } in let r : Result Output Cause = Ok o in r) (sym told)),
-                all,
-              )
+          pub eq_done : (old new : Option (List ℕ)) → told_by verdict ≡ Done → Added old new (verdict_text verdict) → MayEnd (Compares rules one two) Done old new
+          eq_done old new told all = ended Done old new (wrote Done old new told all)
 
-              pub eq_done : (old new : Option (List ℕ)) → told_by verdict ≡ Done → Added old new (verdict_text verdict) → MayEnd (Compares rules one two) Done old new
-              eq_done old new told all = ended Done old new (wrote Done old new told all)
-
-              pub eq_differs : (old new : Option (List ℕ)) → told_by verdict ≡ Differs → Added old new (verdict_text verdict) → MayEnd (Compares rules one two) Differs old new
-              eq_differs old new told all = ended Differs old new (wrote Differs old new told all)
+          pub eq_differs : (old new : Option (List ℕ)) → told_by verdict ≡ Differs → Added old new (verdict_text verdict) → MayEnd (Compares rules one two) Differs old new
+          eq_differs old new told all = ended Differs old new (wrote Differs old new told all)
 
 -- ---- which cause
 abbrev cause_in : Result Output Cause → Cause

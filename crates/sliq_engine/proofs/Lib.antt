@@ -4,12 +4,14 @@ mod WalkLemmas
 mod FoundLemmas
 mod Endings
 mod StepLemmas
+mod SomeEnds
 mod SlicedWalks
 mod SimLemmas
 mod EqLemmas
 mod EqTexts
 mod ProbLemmas
 mod CommandLemmas
+mod AskedRules
 mod TakingLemmas
 mod RunLemmas
 mod OneRun

@@ -1,5 +1,5 @@
 -- How `prob` ends, exit by exit, and that it has one end.
-use Rattle.std.proofs.Common.{◌≡◌, ◌⊎◌, inl, inr, ℕ, ◌^◌, pos, ◌≤ℤ◌, ◌<ℤ◌, ℤ, List, Bool, Option, Ok, refl, ◌∙◌, subst, ap, arith}
+use Rattle.std.proofs.Common.{◌≡◌, ◌⊎◌, inl, inr, ℕ, ◌≤◌, ◌^◌, pos, ◌≤ℤ◌, ◌<ℤ◌, ℤ, List, Bool, Option, Ok, refl, ◌∙◌, subst, ap, arith}
 use Rattle.std.proofs.lemmas.Int.{ints}
 use Rattle.gate_set.specs.Circuits.{Circuit}
 use Rattle.ring_omega.specs.declared.quad.Quad.{Quad}
@@ -26,6 +26,7 @@ use Rattle.sliq_engine.specs.Private.{cause_of_sending, cause_of_weighing}
 use Rattle.sliq_engine.specs.Laws.{IsNoFault, IsSure}
 use Rattle.sliq_engine.proofs.Endings.{ends_first, ends_after, ends_sending}
 use Rattle.sliq_engine.proofs.StepLemmas.{one_reads, some_reads}
+use Rattle.sliq_engine.proofs.SomeEnds.{some_behind, read_on_zeros}
 use Rattle.sliq_engine.proofs.SlicedWalks.{one_simulates, some_simulates}
 
 two_sides : (z : ℤ) → (pos (2 ^ 127) ≤ℤ z) ⊎ (z <ℤ pos (2 ^ 127))
@@ -60,10 +61,10 @@ one_weighs rules text =
     (λ _. one_after IsSure _ _ (one_stops_where IsSure (IsHeavy c.qubits (work c.gates (zeros c.qubits)).entries) WeightTooWide)
     (λ _. one_hands_on IsSure _)))
 
-pub some_weighs : (rules : Settings) (text : List ℕ) → HasSomeEnd IsNoFault (Weighs rules text)
-some_weighs rules text =
-    some_after IsNoFault _ _ (some_reads 1 text)
-    (λ c. some_after IsNoFault _ _ (some_simulates rules (zeros c.qubits) c.gates)
+pub some_weighs : (rules : Settings) (text : List ℕ) → 2 ≤ rules.width → HasSomeEnd IsNoFault (Weighs rules text)
+some_weighs rules text wide =
+    some_behind IsNoFault (Reads 1 text) _ (some_reads 1 text)
+    (λ c reads. some_after IsNoFault _ _ (some_simulates rules (zeros c.qubits) c.gates wide (read_on_zeros 1 text c reads))
     (λ _. some_after IsNoFault _ _ (some_stops_where IsNoFault (IsHeavy c.qubits (work c.gates (zeros c.qubits)).entries) WeightTooWide tt (heavy_or_not (total_weight c.qubits (work c.gates (zeros c.qubits)).entries).a))
     (λ _. some_hands_on IsNoFault _)))
 

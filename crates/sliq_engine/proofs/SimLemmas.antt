@@ -1,5 +1,5 @@
 -- How `sim` ends, exit by exit, and that it has one end.
-use Rattle.std.proofs.Common.{◌≡◌, ℕ, Bool, List, length, Option, Ok, refl, sym, subst}
+use Rattle.std.proofs.Common.{◌≡◌, ℕ, ◌≤◌, Bool, List, length, Option, Ok, refl, sym, subst}
 use Rattle.gate_set.specs.Circuits.{Circuit}
 use Rattle.outside.specs.Bytes.{Added, AddedSome}
 use Rattle.phases.specs.Phases.{HandsOn, HasOneEnd, HasSomeEnd}
@@ -19,6 +19,7 @@ use Rattle.sliq_engine.specs.Private.{cause_of_sending}
 use Rattle.sliq_engine.specs.Laws.{IsNoFault, IsSure}
 use Rattle.sliq_engine.proofs.Endings.{ends_first, ends_after, ends_sending}
 use Rattle.sliq_engine.proofs.StepLemmas.{one_reads, some_reads, one_same, some_same}
+use Rattle.sliq_engine.proofs.SomeEnds.{some_behind, same_number, read_on}
 use Rattle.sliq_engine.proofs.SlicedWalks.{one_simulates, some_simulates}
 use Rattle.sliq_engine.proofs.ListingLemmas.{working_output}
 
@@ -31,11 +32,12 @@ one_sims bits rules text =
     (λ _. one_hands_on IsSure _)))
 
 -- it has some end
-pub some_sims : (bits : Option (List Bool)) (rules : Settings) (text : List ℕ) → HasSomeEnd IsNoFault (Sims bits rules text)
-some_sims bits rules text =
-    some_after IsNoFault _ _ (some_reads 1 text)
-    (λ c. some_after IsNoFault _ _ (some_same c.qubits (length (input_for bits c.qubits)))
-    (λ _. some_after IsNoFault _ _ (some_simulates rules (input_for bits c.qubits) c.gates)
+pub some_sims : (bits : Option (List Bool)) (rules : Settings) (text : List ℕ) → 2 ≤ rules.width → HasSomeEnd IsNoFault (Sims bits rules text)
+some_sims bits rules text wide =
+    some_behind IsNoFault (Reads 1 text) _ (some_reads 1 text)
+    (λ c reads. some_behind IsNoFault (SameQubits c.qubits (length (input_for bits c.qubits))) _ (some_same c.qubits (length (input_for bits c.qubits)))
+    (λ _ same. some_after IsNoFault _ _
+    (some_simulates rules (input_for bits c.qubits) c.gates wide (read_on 1 text c (input_for bits c.qubits) reads (same_number c.qubits (length (input_for bits c.qubits)) same)))
     (λ _. some_hands_on IsNoFault _)))
 
 module _ (bits : Option (List Bool)) (rules : Settings) (text : List ℕ) where

@@ -1,9 +1,9 @@
 -- The phases that commands are made of: each has one end, and its stops are those that are told.
-use Rattle.std.proofs.Common.{◌≡◌, ◌≢◌, inl, inr, ℕ, ◌<◌, List, Bool, Ok, Err, refl, sym, ◌∙◌, ap, arith}
+use Rattle.std.proofs.Common.{◌≡◌, ◌≢◌, inl, inr, ℕ, List, Bool, Ok, Err, refl, sym, ◌∙◌, ap}
 use Rattle.std.proofs.Math.Path.{ap₂}
-use Rattle.std.proofs.lemmas.Bool.{cases_lt, cases_eq}
+use Rattle.std.proofs.lemmas.Bool.{cases_eq}
 use Rattle.gate_set.specs.declared.gate.Gate.{Gate}
-use Rattle.phases.specs.Phases.{HasOneEnd, HasSomeEnd, StopsWhere}
+use Rattle.phases.specs.Phases.{HasOneEnd, HasSomeEnd}
 use Rattle.phases.proofs.Ends.{one_stops_where, some_stops_where}
 use Rattle.amp_dense.specs.Rules.{Settings}
 use Rattle.amp_dense.specs.declared.stop.Stop.{Stop}
@@ -14,7 +14,7 @@ use Rattle.qasm_reader.specs.declared.reason.Refusal.{Refusal}
 use Rattle.qasm_reader.specs.Reading.{Reading, ReadsAs, circuit, refusal}
 use Rattle.qasm_reader.proofs.OneReading.{one_reading}
 use Rattle.qasm_reader.proofs.EveryReading.{every_reading}
-use Rattle.sliq_engine.specs.declared.cause.Cause.TheVariants.{Refused, Unbuilt, QubitsDiffer}
+use Rattle.sliq_engine.specs.declared.cause.Cause.TheVariants.{Refused, QubitsDiffer}
 use Rattle.sliq_engine.specs.Steps.{Reads, SameQubits, cause_of, Simulates}
 use Rattle.sliq_engine.specs.Ending.{MayStopBy}
 use Rattle.sliq_engine.specs.Laws.{IsNoFault, IsSure}
@@ -53,8 +53,3 @@ one_same first second = one_stops_where IsSure (first ≢ second) (QubitsDiffer 
 pub some_same : (first second : ℕ) → HasSomeEnd IsNoFault (SameQubits first second)
 some_same first second =
     some_stops_where IsNoFault (first ≢ second) (QubitsDiffer first second) tt (elim (cases_eq first second) [ inl e ↦ inr (λ other. other e) | inr other ↦ inl other ])
-
--- a circuit is built or it isn't
-pub some_built : (most n file : ℕ) → HasSomeEnd IsNoFault (StopsWhere (most < n) (Unbuilt file))
-some_built most n file =
-    some_stops_where IsNoFault (most < n) (Unbuilt file) tt (elim (cases_lt most n) [ inl h ↦ inl h | inr m ↦ inr (λ h. (let a = m in let b = h in omega arith)) ])

@@ -1,24 +1,38 @@
 -- `eq`.
-use Rattle.std.specs.Prelude.{◌≡◌, ℕ, ◌<◌, List, Ok, Err}
+use Rattle.std.specs.Prelude.{ℕ, ◌*◌, ◌<◌, List, Ok, Err}
+use Rattle.std.specs.List.{range_with_len}
 use Rattle.gate_set.specs.Circuits.{Circuit}
 use Rattle.circuit_model.specs.Product.{exponent}
 use Rattle.amp_dense.specs.Rules.{Settings}
+use Rattle.amp_dense.specs.declared.stop.Stop.{Stop}
+use Rattle.amp_dense.specs.declared.stop.Stop.TheVariants as stops
 use Rattle.amp_printer.specs.declared.verdict.Verdict.{Verdict}
 use Rattle.amp_printer.specs.declared.verdict.Verdict.TheVariants as verdicts
 use Rattle.amp_printer.specs.Verdicts.{verdict_text}
 use Rattle.comparison.specs.Scalars.{comparison, compared}
-use Rattle.comparison.specs.Products.{AllStepsFit, IsFirstUnfitStep}
+use Rattle.comparison.specs.Products.{Step, AllStepsFit, IsFirstUnfitStep}
 use Rattle.comparison.specs.Steps.{steps_of}
 use Rattle.comparison.specs.Verdicts.{IsVerdict}
-use Rattle.phases.specs.Phases.{Phase, ◌>>=◌, ◌>>◌, StopsWhere}
+use Rattle.equivalence.specs.Stops.{StopMeans}
+use Rattle.phases.specs.Phases.{Phase, ◌>>=◌, ◌>>◌, StopsWhere, Told}
 use Rattle.sliq_engine.specs.declared.cause.Cause.{Cause}
-use Rattle.sliq_engine.specs.declared.cause.Cause.TheVariants.{Done, Differs, Unbuilt, Width}
-use Rattle.sliq_engine.specs.Steps.{Reads, SameQubits, Output, Writes}
+use Rattle.sliq_engine.specs.declared.cause.Cause.TheVariants.{Done, Differs, Nodes}
+use Rattle.sliq_engine.specs.Steps.{Reads, SameQubits, cause_of, Output, Writes}
 
--- the steps of the comparison of two circuits fit the width; the stop is at the first after which the matrix doesn't
+-- the identity on the circuit's qubits takes three nodes a qubit; it stops exactly where these are more than the rules allow
+abbrev pub Begins : Settings → Circuit → Phase (Unit {0}) Cause
+Begins rules u = StopsWhere (rules.nodes < 3 * u.qubits) (Nodes 0 (range_with_len 0 (2 * u.qubits)) rules.nodes)
+
+-- the identity is multiplied by steps: they fit the width; or it stops at the first after which the matrix doesn't, or by a want of nodes
+abbrev pub MultipliesBy : Settings → ℕ → List Step → Phase (Unit {0}) Stop
+MultipliesBy rules n steps (Ok _) = AllStepsFit rules.width n steps
+MultipliesBy rules n steps (Err (stops.Width number)) = IsFirstUnfitStep rules.width n steps number
+MultipliesBy rules n steps (Err (stops.Nodes number order held)) = StopMeans rules n steps (stops.Nodes number order held)
+MultipliesBy rules n steps (Err stops.OutOfMemory) = ⊥
+
+-- by the steps of the comparison of two circuits
 abbrev pub Multiplies : Settings → Circuit → Circuit → Phase (Unit {0}) Cause
-Multiplies rules u v (Ok _) = AllStepsFit rules.width u.qubits (steps_of u.gates v.gates)
-Multiplies rules u v (Err cause) = (step : ℕ) × IsFirstUnfitStep rules.width u.qubits (steps_of u.gates v.gates) step × (cause ≡ Width step)
+Multiplies rules u v = Told cause_of (MultipliesBy rules u.qubits (steps_of u.gates v.gates))
 
 -- the cause by which a run ends that has written this verdict
 abbrev pub told_by : Verdict → Cause
@@ -36,8 +50,7 @@ abbrev pub Compares : Settings → List ℕ → List ℕ → Phase Output Cause
 Compares rules one two = do
   u ← Reads 1 one
   v ← Reads 2 two
-  StopsWhere (6 < u.qubits) (Unbuilt 1)
-  StopsWhere (6 < v.qubits) (Unbuilt 2)
   SameQubits u.qubits v.qubits
+  Begins rules u
   Multiplies rules u v
   Says u v

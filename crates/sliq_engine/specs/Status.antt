@@ -4,7 +4,7 @@ use Rattle.std.specs.Fmt.{decimal}
 use Rattle.outside.specs.Outside.{Rose}
 use Rattle.outside.specs.Bytes.{Added, AddedSome}
 use Rattle.sliq_engine.specs.declared.cause.Cause.{Cause}
-use Rattle.sliq_engine.specs.declared.cause.Cause.TheVariants.{Done, Differs, BadWords, ReadFault, TooLong, Refused, Unbuilt, QubitsDiffer, Width, Nodes, WeightTooWide, WriteFault, OutOfMemory}
+use Rattle.sliq_engine.specs.declared.cause.Cause.TheVariants.{Done, Differs, BadWords, ReadFault, TooLong, Refused, QubitsDiffer, Width, Nodes, WeightTooWide, WriteFault, OutOfMemory}
 use Rattle.sliq_engine.specs.Refusals.{reason_text}
 
 abbrev pub status_of : Cause → ℕ
@@ -14,7 +14,6 @@ status_of BadWords = 2
 status_of ReadFault = 3
 status_of (TooLong _) = 4
 status_of (Refused _ _) = 4
-status_of (Unbuilt _) = 4
 status_of (QubitsDiffer _ _) = 4
 status_of (Width _) = 5
 status_of (Nodes _ _ _) = 5
@@ -34,7 +33,6 @@ lines_of BadWords =
 lines_of ReadFault = codes "sliq: read fault\n"
 lines_of (TooLong file) = codes "sliq: file " ++ decimal file ++ codes " too long\n"
 lines_of (Refused file r) = codes "sliq: file " ++ decimal file ++ codes " statement " ++ decimal r.statement ++ codes ": " ++ reason_text r.why ++ codes "\n"
-lines_of (Unbuilt file) = codes "sliq: file " ++ decimal file ++ codes " not built yet\n"
 lines_of (QubitsDiffer first second) = codes "sliq: qubits differ: " ++ decimal first ++ codes " and " ++ decimal second ++ codes "\n"
 lines_of (Width step) = codes "sliq: width limit at step " ++ decimal step ++ codes "\n"
 lines_of (Nodes step order held) =

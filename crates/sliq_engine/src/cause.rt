@@ -5,7 +5,6 @@ ghost use Rattle.sliq_engine.specs.Status.{status_of};
 use crate::output::SendStop;
 use amp_dense::Stop;
 use bit_lists::Order;
-use dense_matrix::MatrixStop;
 use probabilities::WeighStop;
 use qasm_reader::Refusal;
 
@@ -24,8 +23,6 @@ pub enum Cause {
     TooLong { file: u8 },
     /// This file's text is refused.
     Refused { file: u8, refusal: Refusal },
-    /// This file's circuit has more qubits than comparisons are built for yet: 6.
-    Unbuilt { file: u8 },
     /// The numbers of qubits of two circuits differ, or those of a circuit and of its input.
     QubitsDiffer { first: u8, second: u8 },
     /// At this gate of the circuit, or step of the comparison, counted from 1, a coefficient was wider than the rules allow.
@@ -56,10 +53,7 @@ impl Cause {
             Cause::Differs => 1,
             Cause::BadWords => 2,
             Cause::ReadFault => 3,
-            Cause::TooLong { .. }
-            | Cause::Refused { .. }
-            | Cause::Unbuilt { .. }
-            | Cause::QubitsDiffer { .. } => 4,
+            Cause::TooLong { .. } | Cause::Refused { .. } | Cause::QubitsDiffer { .. } => 4,
             Cause::Width { .. } | Cause::Nodes { .. } | Cause::WeightTooWide => 5,
             Cause::WriteFault => 6,
             Cause::OutOfMemory => 7,
@@ -110,20 +104,6 @@ impl From<SendStop> for Cause {
         match stop {
             SendStop::Fault => Cause::WriteFault,
             SendStop::OutOfMemory => Cause::OutOfMemory,
-        }
-    }
-}
-
-impl From<MatrixStop> for Cause {
-    ghost use Rattle.std.specs.Prelude.{◌≡◌};
-    ghost use Rattle.sliq_engine.specs.Private.{cause_of_matrix};
-
-    ghost from_gives = { λ stop cause. cause ≡ cause_of_matrix stop };
-
-    fn from(stop: MatrixStop) -> Self {
-        match stop {
-            MatrixStop::Width { step } => Cause::Width { step },
-            MatrixStop::OutOfMemory => Cause::OutOfMemory,
         }
     }
 }

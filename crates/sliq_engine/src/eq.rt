@@ -9,15 +9,12 @@ ghost use Rattle.sliq_engine.specs.Ending.{MayEnd};
 use crate::cause::Cause;
 use crate::output::SendStop;
 use crate::reading::read_circuit;
-use crate::simulation::{check_built, check_qubits};
+use crate::simulation::check_qubits;
 use amp_dense::Rules;
 use amp_printer::{Verdict, verdict_text};
-use dense_matrix::compare;
+use equivalence::compare;
 use outside::{Sink, write_all};
 use std::alloc::Global;
-
-/// The most qubits of circuits that are compared.
-const MATRIX_QUBITS: u8 = 6;
 
 /// Carries out `eq` on the texts of its files. Nothing is written before the last step. The answer is Ok for Done alone, so Differs is an
 /// error here, though the whole output was written.
@@ -37,10 +34,8 @@ pub fn eq<K: Sink>(
 {
     let u = read_circuit(alloc, 1, one)?;
     let v = read_circuit(alloc, 2, two)?;
-    check_built(&u, MATRIX_QUBITS, 1)?;
-    check_built(&v, MATRIX_QUBITS, 2)?;
     check_qubits(u.qubits(), v.qubits())?;
-    let verdict = compare(alloc, &u, &v, rules.width())?;
+    let verdict = compare(alloc, &u, &v, rules)?;
     send_verdict(out, &verdict)?;
     told(&verdict)?;
     Ok(())

@@ -18,7 +18,7 @@ const COMPARE: [&str; 4] = ["sliq", "eq", "a", "b"];
 
 #[test]
 fn circuits_and_their_verdicts(rt: HostRuntime) -> Result<(), OutOfMemory> {
-    let rows: [(&[u8], &[u8], u8, &[u8]); 15] = [
+    let rows: [(&[u8], &[u8], u8, &[u8]); 17] = [
         (
             b"OPENQASM 2.0; qreg q[1]; x q; z q;",
             b"OPENQASM 2.0; qreg q[1]; z q; x q;",
@@ -99,6 +99,18 @@ fn circuits_and_their_verdicts(rt: HostRuntime) -> Result<(), OutOfMemory> {
             b"differs\nrow 000000 column 011111\nvalue (0,0,0,1)/sqrt2^2\ncorner (0,0,0,1)/sqrt2^2\n",
         ),
         (
+            b"OPENQASM 2.0; qreg q[64]; h q; t q; cx q[0],q[63];",
+            b"OPENQASM 2.0; qreg q[64]; h q; t q; h q[63]; cz q[63],q[0]; h q[63];",
+            0,
+            b"equivalent\nscalar (0,0,0,1)/sqrt2^0\n",
+        ),
+        (
+            b"OPENQASM 2.0; qreg q[64]; h q; cx q[0],q[63]; s q[0]; x q[63];",
+            b"OPENQASM 2.0; qreg q[64]; h q; cx q[0],q[63]; s q[0];",
+            1,
+            b"differs\nrow 0000000000000000000000000000000000000000000000000000000000000000 column 0000000000000000000000000000000000000000000000000000000000000001\nvalue (0,0,0,1)/sqrt2^0\ncorner (0,0,0,0)/sqrt2^0\n",
+        ),
+        (
             b"OPENQASM 2.0; qreg q[6]; h q; t q;",
             b"OPENQASM 2.0; qreg q[6]; h q; t q;",
             0,
@@ -125,13 +137,13 @@ fn refused(file: u8) -> Cause {
     }
 }
 
-// The order of causes: both texts, then what isn't built, then the numbers of qubits.
+// The order of causes: both texts, then the numbers of qubits.
 #[test]
 fn circuits_that_are_not_compared(rt: HostRuntime) -> Result<(), OutOfMemory> {
     let two = b"OPENQASM 2.0; qreg q[2];".as_slice();
     let three = b"OPENQASM 2.0; qreg q[3];".as_slice();
     let seven = b"OPENQASM 2.0; qreg q[7];".as_slice();
-    let rows: [(&[u8], &[u8], Cause, &[u8]); 9] = [
+    let rows: [(&[u8], &[u8], Cause, &[u8]); 7] = [
         (
             two,
             three,
@@ -153,20 +165,11 @@ fn circuits_that_are_not_compared(rt: HostRuntime) -> Result<(), OutOfMemory> {
         (
             seven,
             two,
-            Cause::Unbuilt { file: 1 },
-            b"sliq: file 1 not built yet\n",
-        ),
-        (
-            two,
-            seven,
-            Cause::Unbuilt { file: 2 },
-            b"sliq: file 2 not built yet\n",
-        ),
-        (
-            seven,
-            seven,
-            Cause::Unbuilt { file: 1 },
-            b"sliq: file 1 not built yet\n",
+            Cause::QubitsDiffer {
+                first: 7,
+                second: 2,
+            },
+            b"sliq: qubits differ: 7 and 2\n",
         ),
         (
             b"x",
@@ -307,22 +310,33 @@ fn each_write_of_a_verdict_fails_in_turn(rt: HostRuntime) -> Result<(), OutOfMem
     Ok(())
 }
 
-// The options of `eq`. With two bits the first Hadamard fits, and the second doesn't.
+const WIDE: &[u8] = b"OPENQASM 2.0; qreg q[64];";
+
+// The options of `eq`. With two bits the first Hadamard fits, and the second doesn't. Three nodes a qubit are the least that a comparison takes.
 #[test]
 fn options_of_eq(rt: HostRuntime) -> Result<(), OutOfMemory> {
     let same = b"equivalent\nscalar (0,0,0,1)/sqrt2^0\n".as_slice();
-    let rows: [(&[&str], u8, &[u8], &[u8]); 3] = [
+    let rows: [(&[&str], &[u8], u8, &[u8], &[u8]); 5] = [
         (
             &["sliq", "eq", "--width", "2", "a", "b"],
+            H_H,
             5,
             b"",
             b"sliq: width limit at step 2\n",
         ),
-        (&["sliq", "eq", "a", "--width=3", "b"], 0, same, b""),
-        (&["sliq", "eq", "b", "--nodes=64", "b"], 0, same, b""),
+        (&["sliq", "eq", "a", "--width=3", "b"], H_H, 0, same, b""),
+        (&["sliq", "eq", "b", "--nodes=64", "b"], H_H, 0, same, b""),
+        (
+            &["sliq", "eq", "a", "a", "--nodes=191"],
+            WIDE,
+            5,
+            b"",
+            b"sliq: node limit at step 0, held 191, order 0 1 2 3 4 5 6 7 8 9 10 11 12 13 14 15 16 17 18 19 20 21 22 23 24 25 26 27 28 29 30 31 32 33 34 35 36 37 38 39 40 41 42 43 44 45 46 47 48 49 50 51 52 53 54 55 56 57 58 59 60 61 62 63 64 65 66 67 68 69 70 71 72 73 74 75 76 77 78 79 80 81 82 83 84 85 86 87 88 89 90 91 92 93 94 95 96 97 98 99 100 101 102 103 104 105 106 107 108 109 110 111 112 113 114 115 116 117 118 119 120 121 122 123 124 125 126 127\n",
+        ),
+        (&["sliq", "eq", "a", "a", "--nodes=192"], WIDE, 0, same, b""),
     ];
-    for (words, status, output, lines) in rows {
-        let ran = run_on_files(rt.alloc(), words, &[H_H, ONE], CALM)?;
+    for (words, one, status, output, lines) in rows {
+        let ran = run_on_files(rt.alloc(), words, &[one, ONE], CALM)?;
         assert_eq!(rt; ran.ended.status, status, "{words:?}");
         assert_eq!(rt; ran.out.written(), output, "{words:?}");
         assert_eq!(rt; ran.err.written(), lines, "{words:?}");

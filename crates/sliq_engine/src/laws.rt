@@ -24,9 +24,9 @@ pub fn one_end()
     ensures { (asked : Request) (texts : List (List ℕ)) → HasOneEnd IsSure (CarriesOut asked.task asked.rules texts) }
 {}
 
-/// And it comes to some output, or to some cause.
+/// And what words ask for, on whatever texts, comes to some output, or to some cause.
 pub fn some_end()
-    ensures { (asked : Request) (texts : List (List ℕ)) → HasSomeEnd IsNoFault (CarriesOut asked.task asked.rules texts) }
+    ensures { (words : List (List ℕ)) (asked : Request) → asked_of words ≡ Some asked → (texts : List (List ℕ)) → HasSomeEnd IsNoFault (CarriesOut asked.task asked.rules texts) }
 {}
 
 /// Where a shelf in memory has the files of the words, a run on it comes to one output at most, or to one cause, but for faults of the shelf and a want of

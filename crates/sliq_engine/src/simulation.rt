@@ -1,7 +1,5 @@
 //! The gates of a circuit, applied to a basis state.
-ghost use Rattle.std.specs.Prelude.{◌≡◌, ◌<◌, ◌≤◌, length, IfOk, IfErr, OnOk, Ok};
-ghost use Rattle.phases.specs.Phases.{StopsWhere};
-ghost use Rattle.sliq_engine.specs.declared.cause.Cause.TheVariants.{Unbuilt};
+ghost use Rattle.std.specs.Prelude.{◌≡◌, ◌≤◌, length, IfOk, IfErr, OnOk, Ok};
 ghost use Rattle.sliq_engine.specs.Steps.{SameQubits, Simulates, zeros};
 ghost use Rattle.sliq_engine.specs.Ending.{MayStopBy};
 
@@ -10,17 +8,6 @@ use amp_dense::{Amplitudes, Rules};
 use bit_lists::Bits;
 use gate_set::Circuit;
 use std::alloc::Global;
-
-/// Stops where the circuit of the file of this number has more than this many qubits.
-pub fn check_built(circuit: &Circuit, most: u8, file: u8) -> Result<(), Cause>
-    ensures built { OnOk result (¬ (most < circuit.now.qubits)) }
-    ensures stop { IfErr result (MayStopBy (StopsWhere (most < circuit.now.qubits) (Unbuilt file))) }
-{
-    if circuit.qubits() > most {
-        return Err(Cause::Unbuilt { file });
-    }
-    Ok(())
-}
 
 /// Stops where two numbers of qubits differ.
 pub fn check_qubits(first: u8, second: u8) -> Result<(), Cause>

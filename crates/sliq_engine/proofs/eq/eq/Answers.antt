@@ -1,20 +1,19 @@
-use Rattle.std.proofs.Common.{rules, ◌≡◌, ◌<◌, ◌≤◌, ℕ, inl, inr, Err, sym, ◌∙◌, subst, arith}
-use Rattle.std.proofs.lemmas.Bool.{cases_lt}
+use Rattle.std.proofs.Common.{rules, ◌≡◌, ◌≤◌, ◌*◌, ℕ, Err, sym, ◌∙◌, subst}
+use Rattle.amp_dense.specs.declared.stop.Stop.{Stop}
 use Rattle.gate_set.specs.Circuits.{Circuit}
 use Rattle.circuit_model.specs.Product.{exponent}
 use Rattle.comparison.specs.Scalars.{comparison, compared}
 use Rattle.comparison.specs.Products.{AllStepsFit}
 use Rattle.comparison.specs.Steps.{steps_of}
 use Rattle.comparison.proofs.Verdicts.{verdict-short}
-use Rattle.dense_matrix.specs.declared.comparing.MatrixStop.{MatrixStop}
-use Rattle.dense_matrix.specs.Stops.{StopMeans}
+use Rattle.equivalence.specs.Stops.{StopMeans}
 use Rattle.sliq_engine.specs.declared.output.SendStop.{SendStop}
 use Rattle.sliq_engine.specs.declared.cause.Cause.{Cause}
-use Rattle.sliq_engine.specs.Steps.{SameQubits}
+use Rattle.sliq_engine.specs.Steps.{SameQubits, cause_of}
 use Rattle.sliq_engine.specs.Eq.{Compares}
 use Rattle.sliq_engine.specs.Ending.{MayEnd, MayStopBy}
-use Rattle.sliq_engine.specs.Private.{cause_of_sending, cause_of_matrix}
-use Rattle.sliq_engine.proofs.EqLemmas.{eq_refused, eq_refused_second, eq_unbuilt, eq_unbuilt_second, eq_unlike, eq_halts, eq_stops, eq_done, eq_differs}
+use Rattle.sliq_engine.specs.Private.{cause_of_sending}
+use Rattle.sliq_engine.proofs.EqLemmas.{eq_refused, eq_refused_second, eq_unlike, eq_halts, eq_stops, eq_done, eq_differs}
 use Rattle.sliq_engine.proofs.eq.eq.Goals as goal
 
 pub returns-in_err-u-clause-stop : goal.returns-in_err-u-clause-stop
@@ -29,18 +28,6 @@ returns-in_err-v-clause-stop g c =
     let told : c.from_residual-in_err-v.result ≡ Err cause = search rules in
     rw told (eq_refused_second c.args.rules.now c.args.one.now c.args.two.now c.in_ok-u.u c.in_ok-u.ensures.reads cause (g.K.Sink.written c.args.out.now) c.in_err-v.ensures.stop)
 
-pub returns-in_err-check_built-clause-stop : goal.returns-in_err-check_built-clause-stop
-returns-in_err-check_built-clause-stop g c =
-    let cause : Cause = c.in_err-check_built.field-0.0 in
-    let told : c.from_residual-in_err-check_built.result ≡ Err cause = search rules in
-    rw told (eq_unbuilt c.args.rules.now c.args.one.now c.args.two.now c.in_ok-u.u c.in_ok-u.ensures.reads c.in_ok-v.v c.in_ok-v.ensures.reads cause (g.K.Sink.written c.args.out.now) c.in_err-check_built.ensures.stop)
-
-pub returns-in_err-check_built-2-clause-stop : goal.returns-in_err-check_built-2-clause-stop
-returns-in_err-check_built-2-clause-stop g c =
-    let cause : Cause = c.in_err-check_built-2.field-0.0 in
-    let told : c.from_residual-in_err-check_built-2.result ≡ Err cause = search rules in
-    rw told (eq_unbuilt_second c.args.rules.now c.args.one.now c.args.two.now c.in_ok-u.u c.in_ok-u.ensures.reads c.in_ok-v.v c.in_ok-v.ensures.reads c.in_ok-check_built.ensures.built cause (g.K.Sink.written c.args.out.now) c.in_err-check_built-2.ensures.stop)
-
 pub returns-in_err-check_qubits-clause-stop : goal.returns-in_err-check_qubits-clause-stop
 returns-in_err-check_qubits-clause-stop g c =
     let u : Circuit = c.in_ok-u.u in
@@ -50,35 +37,29 @@ returns-in_err-check_qubits-clause-stop g c =
     let stop : MayStopBy (SameQubits u.qubits v.qubits) cause =
     subst (λ (m : ℕ). MayStopBy (SameQubits m v.qubits) cause) c.qubits.ensures.value
     (subst (λ (n : ℕ). MayStopBy (SameQubits c.qubits.result n) cause) c.qubits-2.ensures.value c.in_err-check_qubits.ensures.stop) in
-    rw told (eq_unlike c.args.rules.now c.args.one.now c.args.two.now u c.in_ok-u.ensures.reads v c.in_ok-v.ensures.reads c.in_ok-check_built.ensures.built c.in_ok-check_built-2.ensures.built cause (g.K.Sink.written c.args.out.now) stop)
+    rw told (eq_unlike c.args.rules.now c.args.one.now c.args.two.now u c.in_ok-u.ensures.reads v c.in_ok-v.ensures.reads cause (g.K.Sink.written c.args.out.now) stop)
 
 -- the two numbers of qubits, as they are read
 same_numbers : (m n first second : ℕ) → first ≡ m → second ≡ n → first ≡ second → m ≡ n
 same_numbers m n first second p q e = sym p ∙ e ∙ q
 
--- what isn't more than another number is at most it
-at_most : (m n : ℕ) → ¬ (m < n) → n ≤ m
-at_most m n h = elim (cases_lt m n) [ inl l ↦ absurd (h l) | inr e ↦ e ]
-
 pub compare-requires-clause-small : goal.compare-requires-clause-small
-compare-requires-clause-small g c = at_most 6 c.in_ok-u.u.qubits c.in_ok-check_built.ensures.built
+compare-requires-clause-small g c = c.qubits.ensures.sound.few_qubits
 
 pub returns-in_err-verdict-clause-stop : goal.returns-in_err-verdict-clause-stop
 returns-in_err-verdict-clause-stop g c =
     let u : Circuit = c.in_ok-u.u in
     let v : Circuit = c.in_ok-v.v in
-    let stop : MatrixStop = c.in_err-verdict.field-0.0 in
-    let told : c.from_residual-in_err-verdict.result ≡ Err (cause_of_matrix stop) = search rules in
-    let means : StopMeans c.args.rules.now.width u.qubits (steps_of u.gates v.gates) stop =
-    subst (λ (w : ℕ). StopMeans w u.qubits (steps_of u.gates v.gates) stop) c.width.ensures.value c.in_err-verdict.ensures.stop in
-    rw told (eq_halts c.args.rules.now c.args.one.now c.args.two.now c.in_ok-u.u c.in_ok-u.ensures.reads c.in_ok-v.v c.in_ok-v.ensures.reads c.in_ok-check_built.ensures.built c.in_ok-check_built-2.ensures.built (same_numbers c.in_ok-u.u.qubits c.in_ok-v.v.qubits c.qubits.result c.qubits-2.result c.qubits.ensures.value c.qubits-2.ensures.value c.in_ok-check_qubits.ensures.same) stop (g.K.Sink.written c.args.out.now) means)
+    let stop : Stop = c.in_err-verdict.field-0.0 in
+    let told : c.from_residual-in_err-verdict.result ≡ Err (cause_of stop) = search rules in
+    let means : StopMeans c.args.rules.now u.qubits (steps_of u.gates v.gates) stop = c.in_err-verdict.ensures.stop in
+    rw told (eq_halts c.args.rules.now c.args.one.now c.args.two.now c.in_ok-u.u c.in_ok-u.ensures.reads c.in_ok-v.v c.in_ok-v.ensures.reads (same_numbers c.in_ok-u.u.qubits c.in_ok-v.v.qubits c.qubits.result c.qubits-2.result c.qubits.ensures.value c.qubits-2.ensures.value c.in_ok-check_qubits.ensures.same) stop (g.K.Sink.written c.args.out.now) means)
 
 pub send_verdict-requires : goal.send_verdict-requires
 send_verdict-requires g c =
     let u : Circuit = c.in_ok-u.u in
     let v : Circuit = c.in_ok-v.v in
-    let few = at_most 6 u.qubits c.in_ok-check_built.ensures.built in
-    verdict-short u.qubits (compared u.gates v.gates) (exponent (comparison u.gates v.gates)) c.in_ok-verdict.verdict (omega arith) c.in_ok-verdict.ensures.verdict
+    verdict-short u.qubits (compared u.gates v.gates) (exponent (comparison u.gates v.gates)) c.in_ok-verdict.verdict c.qubits.ensures.sound.few_qubits c.in_ok-verdict.ensures.verdict
 
 pub returns-in_err-send_verdict-clause-stop : goal.returns-in_err-send_verdict-clause-stop
 returns-in_err-send_verdict-clause-stop g c =
@@ -86,9 +67,9 @@ returns-in_err-send_verdict-clause-stop g c =
     let v : Circuit = c.in_ok-v.v in
     let stop : SendStop = c.in_err-send_verdict.field-0.0 in
     let told : c.from_residual-in_err-send_verdict.result ≡ Err (cause_of_sending stop) = search rules in
-    let fits : AllStepsFit c.args.rules.now.width u.qubits (steps_of u.gates v.gates) =
-    subst (λ (w : ℕ). AllStepsFit w u.qubits (steps_of u.gates v.gates)) c.width.ensures.value c.in_ok-verdict.ensures.fits in
-    rw told (eq_stops c.args.rules.now c.args.one.now c.args.two.now c.in_ok-u.u c.in_ok-u.ensures.reads c.in_ok-v.v c.in_ok-v.ensures.reads c.in_ok-check_built.ensures.built c.in_ok-check_built-2.ensures.built (same_numbers c.in_ok-u.u.qubits c.in_ok-v.v.qubits c.qubits.result c.qubits-2.result c.qubits.ensures.value c.qubits-2.ensures.value c.in_ok-check_qubits.ensures.same) fits c.in_ok-verdict.verdict c.in_ok-verdict.ensures.verdict stop
+    let room : 3 * u.qubits ≤ c.args.rules.now.nodes = c.in_ok-verdict.ensures.room in
+    let fits : AllStepsFit c.args.rules.now.width u.qubits (steps_of u.gates v.gates) = c.in_ok-verdict.ensures.fits in
+    rw told (eq_stops c.args.rules.now c.args.one.now c.args.two.now c.in_ok-u.u c.in_ok-u.ensures.reads c.in_ok-v.v c.in_ok-v.ensures.reads (same_numbers c.in_ok-u.u.qubits c.in_ok-v.v.qubits c.qubits.result c.qubits-2.result c.qubits.ensures.value c.qubits-2.ensures.value c.in_ok-check_qubits.ensures.same) room fits c.in_ok-verdict.verdict c.in_ok-verdict.ensures.verdict stop
     (g.K.Sink.written c.args.out.now) (g.K.Sink.written c.send_verdict.new.out) c.in_err-send_verdict.ensures.err)
 
 pub returns-in_err-told-clause-stop : goal.returns-in_err-told-clause-stop
@@ -97,18 +78,18 @@ returns-in_err-told-clause-stop g c =
     let v : Circuit = c.in_ok-v.v in
     let cause : Cause = c.in_err-told.field-0.0 in
     let told : c.from_residual-in_err-told.result ≡ Err cause = search rules in
-    let fits : AllStepsFit c.args.rules.now.width u.qubits (steps_of u.gates v.gates) =
-    subst (λ (w : ℕ). AllStepsFit w u.qubits (steps_of u.gates v.gates)) c.width.ensures.value c.in_ok-verdict.ensures.fits in
+    let room : 3 * u.qubits ≤ c.args.rules.now.nodes = c.in_ok-verdict.ensures.room in
+    let fits : AllStepsFit c.args.rules.now.width u.qubits (steps_of u.gates v.gates) = c.in_ok-verdict.ensures.fits in
     let said = c.in_err-told.ensures.differs in
     let P : Cause → Type 0 = λ k. MayEnd (Compares c.args.rules.now c.args.one.now c.args.two.now) k (g.K.Sink.written c.args.out.now) (g.K.Sink.written c.send_verdict.new.out) in
-    rw told (subst P (sym said.1) (eq_differs c.args.rules.now c.args.one.now c.args.two.now c.in_ok-u.u c.in_ok-u.ensures.reads c.in_ok-v.v c.in_ok-v.ensures.reads c.in_ok-check_built.ensures.built c.in_ok-check_built-2.ensures.built (same_numbers c.in_ok-u.u.qubits c.in_ok-v.v.qubits c.qubits.result c.qubits-2.result c.qubits.ensures.value c.qubits-2.ensures.value c.in_ok-check_qubits.ensures.same) fits c.in_ok-verdict.verdict c.in_ok-verdict.ensures.verdict
+    rw told (subst P (sym said.1) (eq_differs c.args.rules.now c.args.one.now c.args.two.now c.in_ok-u.u c.in_ok-u.ensures.reads c.in_ok-v.v c.in_ok-v.ensures.reads (same_numbers c.in_ok-u.u.qubits c.in_ok-v.v.qubits c.qubits.result c.qubits-2.result c.qubits.ensures.value c.qubits-2.ensures.value c.in_ok-check_qubits.ensures.same) room fits c.in_ok-verdict.verdict c.in_ok-verdict.ensures.verdict
     (g.K.Sink.written c.args.out.now) (g.K.Sink.written c.send_verdict.new.out) (sym said.0 ∙ said.1) c.in_ok-send_verdict.ensures.ok))
 
 pub returns-clause-done : goal.returns-clause-done
 returns-clause-done g c =
     let u : Circuit = c.in_ok-u.u in
     let v : Circuit = c.in_ok-v.v in
-    let fits : AllStepsFit c.args.rules.now.width u.qubits (steps_of u.gates v.gates) =
-    subst (λ (w : ℕ). AllStepsFit w u.qubits (steps_of u.gates v.gates)) c.width.ensures.value c.in_ok-verdict.ensures.fits in
-    eq_done c.args.rules.now c.args.one.now c.args.two.now c.in_ok-u.u c.in_ok-u.ensures.reads c.in_ok-v.v c.in_ok-v.ensures.reads c.in_ok-check_built.ensures.built c.in_ok-check_built-2.ensures.built (same_numbers c.in_ok-u.u.qubits c.in_ok-v.v.qubits c.qubits.result c.qubits-2.result c.qubits.ensures.value c.qubits-2.ensures.value c.in_ok-check_qubits.ensures.same) fits c.in_ok-verdict.verdict c.in_ok-verdict.ensures.verdict
+    let room : 3 * u.qubits ≤ c.args.rules.now.nodes = c.in_ok-verdict.ensures.room in
+    let fits : AllStepsFit c.args.rules.now.width u.qubits (steps_of u.gates v.gates) = c.in_ok-verdict.ensures.fits in
+    eq_done c.args.rules.now c.args.one.now c.args.two.now c.in_ok-u.u c.in_ok-u.ensures.reads c.in_ok-v.v c.in_ok-v.ensures.reads (same_numbers c.in_ok-u.u.qubits c.in_ok-v.v.qubits c.qubits.result c.qubits-2.result c.qubits.ensures.value c.qubits-2.ensures.value c.in_ok-check_qubits.ensures.same) room fits c.in_ok-verdict.verdict c.in_ok-verdict.ensures.verdict
     (g.K.Sink.written c.args.out.now) (g.K.Sink.written c.send_verdict.new.out) c.in_ok-told.ensures.done c.in_ok-send_verdict.ensures.ok
