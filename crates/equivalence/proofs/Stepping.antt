@@ -24,9 +24,9 @@ use Rattle.comparison.proofs.Working.{work_matrix-value}
 use Rattle.slice_quad.specs.declared.quad.SliceQuad.{SliceQuad}
 use Rattle.slice_quad.specs.Walks.{entries_in}
 use Rattle.diagram_ops.specs.Diagrams.{Shared}
-use Rattle.unitary_update.specs.Kept.{State, Standing, begun, Accepts, ShowsMatrix, StartStopMeans, StopMeans as StepStopMeans}
+use Rattle.unitary_update.specs.Kept.{State, Standing, begun, Accepts, ShowsMatrix, StartStopMeans, work_of, needed, StopMeans as StepStopMeans}
 use Rattle.equivalence.specs.Matrices.{matrix_in}
-use Rattle.equivalence.specs.Stops.{MayLackNodes, StopMeans}
+use Rattle.equivalence.specs.Stops.{standing_after, NextNeedsNodes, MayLackNodes, StopMeans}
 
 -- on n qubits, the matrix stands by the first t steps, all of which fit
 pub record IsAfter (n : ℕ) (rules : Settings) (steps : List Step) (t : ℕ) (s : Standing) : Type 0 where
@@ -36,6 +36,9 @@ pub record IsAfter (n : ℕ) (rules : Settings) (steps : List Step) (t : ℕ) (s
   pub order : s.order ≡ range_with_len 0 (2 * n)
   pub fits : AllStepsFit rules.width n (take t steps)
   pub room : 3 * n ≤ rules.nodes
+
+same_standing : (m p : Standing) → m.qubits ≡ p.qubits → m.rules ≡ p.rules → m.steps ≡ p.steps → m.order ≡ p.order → m ≡ p
+same_standing m p qubits rules steps order = λ i. record { qubits = qubits i; rules = rules i; steps = steps i; order = order i }
 
 module _ (n : ℕ) (rules : Settings) (steps : List Step) (t : ℕ) (s : Step) (rest : List Step) (next : drop t steps ≡ s ∷ rest) (m : Standing) (now : IsAfter n rules steps t m) where
   taken : take (t + 1) steps ≡ take t steps ++ s ∷ []
@@ -54,6 +57,12 @@ module _ (n : ℕ) (rules : Settings) (steps : List Step) (t : ℕ) (s : Step) (
         room = now.room;
       }
 
+  next_needs : m.rules.nodes ≤ needed m (work_of m s) → NextNeedsNodes rules n (take t steps) (drop t steps)
+  next_needs h =
+      let there : m ≡ standing_after rules n (take t steps) = same_standing m (standing_after rules n (take t steps)) now.qubits now.rules_are now.done now.order in
+      let here : NextNeedsNodes rules n (take t steps) (s ∷ rest) = subst (λ (p : Standing). p.rules.nodes ≤ needed p (work_of p s)) there h in
+      subst (NextNeedsNodes rules n (take t steps)) (sym next) here
+
   pub stops_after : (stop : Stop) → t < length steps → StepStopMeans m s stop → StopMeans rules n steps stop
   stops_after (Width number) lt h = (
     now.room,
@@ -71,7 +80,7 @@ module _ (n : ℕ) (rules : Settings) (steps : List Step) (t : ℕ) (s : Step) (
   stops_after (Nodes number order held) lt h =
       let long : length m.steps ≡ t = ap length now.done ∙ length-take-le t steps (omega (arith, lt)) in
       let at : number ≡ suc t = h.0 ∙ omega (arith, long) in
-      (h.1 ∙ now.order, h.2 ∙ ap (λ (r : Settings). r.nodes) now.rules_are, subst (MayLackNodes rules n steps) (sym at) (now.room, lt, now.fits))
+      (h.1 ∙ now.order, h.2 ∙ ap (λ (r : Settings). r.nodes) now.rules_are, subst (MayLackNodes rules n steps) (sym at) (now.room, lt, now.fits, next_needs h.3))
   stops_after OutOfMemory lt h = tt
 
 pub starts : (n : ℕ) (rules : Settings) (steps : List Step) (stop : Stop) → StartStopMeans n rules stop → StopMeans rules n steps stop

@@ -21,7 +21,8 @@ use unitary_update::SlicedMatrix;
 /// What is to be said of U·V† for two circuits on the same number of qubits, at most 64.
 ///
 /// A stop numbers the steps of the comparison from 1, left and right ones together. Where three nodes a qubit are more than the rules
-/// allow, it is `Nodes` with 0. What the steps cost depends on how many functions the bits of the matrix share.
+/// allow, it is `Nodes` with 0; at a step it is `Nodes` only where the step's work functions alone need at least as many as the rules
+/// allow. What the steps cost depends on how many functions the bits of the matrix share.
 pub fn compare(alloc: Global, u: &Circuit, v: &Circuit, rules: &Rules) -> Result<Verdict, Stop>
     requires same { u.now.qubits ≡ v.now.qubits }
     requires small { u.now.qubits ≤ 64 }

@@ -1,2 +1,3 @@
 pub mod MatrixLemmas
+pub mod NodeLemmas
 pub mod Woven

@@ -3,22 +3,26 @@ use Rattle.std.specs.Prelude.{◌≡◌, ◌≤◌, ◌<◌, ℕ, ◌+◌, ◌*�
 use Rattle.std.specs.List.{range_with_len}
 use Rattle.gate_set.specs.Shape.{IsOn}
 use Rattle.circuit_model.specs.Working.{Scaled}
-use Rattle.comparison.specs.Products.{Step, gate_of, work_matrix, RawStepFits}
+use Rattle.comparison.specs.Scalars.{Matrix}
+use Rattle.comparison.specs.Products.{Step, gate_of, by_position, work_matrix, RawStepFits}
 use Rattle.comparison.specs.Products.Step.{left, right}
 use Rattle.amp_dense.specs.declared.stop.Stop.{Stop}
 use Rattle.amp_dense.specs.declared.stop.Stop.TheVariants.{Width, Nodes, OutOfMemory}
 use Rattle.amp_dense.specs.Rules.{Settings}
+use Rattle.diagram_model.specs.Functions.{Function}
 use Rattle.diagram_model.specs.Size.{size}
 use Rattle.diagram_model.specs.Stores.{Diagram}
 use Rattle.diagram_ops.specs.Diagrams.{Shared, IsConsistent}
 use Rattle.slice_quad.specs.declared.kind.Step.{Step as SlicedStep}
 use Rattle.slice_quad.specs.declared.quad.SliceQuad.{SliceQuad}
-use Rattle.slice_quad.specs.RowsColumns.{KeepsRowEqualsColumn}
+use Rattle.slice_quad.specs.Mix.{Vector}
+use Rattle.slice_quad.specs.RowsColumns.{row_equals_column, KeepsRowEqualsColumn}
+use Rattle.slice_quad.specs.Stepping.{work_functions}
 use Rattle.slice_quad.specs.Vectors.{Stands}
 use Rattle.slice_gates.specs.declared.side.Side.TheVariants.{Rows, Columns}
-use Rattle.slice_gates.specs.Shown.{IsMatrixShown}
+use Rattle.slice_gates.specs.Shown.{first_values, IsMatrixShown}
+use Rattle.slice_gates.specs.Sides.{place_on}
 use Rattle.slice_gates.specs.Stepped.{step_for}
-use Rattle.step_upkeep.specs.Upkept.{work_in}
 use Rattle.unitary_update.specs.declared.accepted.MatrixStep.{MatrixStep}
 use Rattle.unitary_update.specs.declared.accepted.MatrixStep.TheVariants.{Left, Right}
 
@@ -55,10 +59,27 @@ pub record Accepts (s : Standing) (t : Step) (r : Standing) : Type 0 where
   pub fits : RawStepFits s.rules.width s.qubits s.steps t
   pub same : r ≡ with_step s t
 
--- what a refusal of a step says: its number, counted from 1, and that its product doesn't fit, or that there are too few nodes
+-- ---- nodes
+-- a matrix on n qubits, by the values of 2n variables: bit q of the row is variable 2q, and bit q of the column is variable 2q + 1
+unfoldable pub by_variables : ℕ → Matrix → Vector
+by_variables n m x = m (first_values n (λ q. x (place_on Rows q))) (first_values n (λ q. x (place_on Columns q)))
+
+-- The work functions of a step on the working matrix, over the variables of the rows from the left and of the columns from the right, beside
+-- "row equals column". Coefficients are as wide as the rules let them be: where they are narrower, the bits more are the sign again, which
+-- adds no function.
+unfoldable pub work_of : Standing → Step → List Function
+work_of s t = work_functions s.rules.width (row_equals_column s.qubits) (sliced_step s.qubits t) (by_variables s.qubits (by_position (work_matrix s.qubits s.steps).entries))
+
+-- how many nodes functions need in the order in force
+abbrev pub needed : Standing → List Function → ℕ
+needed s fs = size (length s.order) s.order fs
+
+-- ---- stops
+-- what a refusal of a step says: its number, counted from 1, and that its product doesn't fit, or that its work functions alone need at
+-- least as many nodes as the rules allow, in the order in force
 abbrev pub StopMeans : Standing → Step → Stop → Type 0
 StopMeans s t (Width number) = (number ≡ length s.steps + 1) × ¬ RawStepFits s.rules.width s.qubits s.steps t
-StopMeans s t (Nodes number order full) = (number ≡ length s.steps + 1) × (order ≡ s.order) × (full ≡ s.rules.nodes)
+StopMeans s t (Nodes number order full) = (number ≡ length s.steps + 1) × (order ≡ s.order) × (full ≡ s.rules.nodes) × (s.rules.nodes ≤ needed s (work_of s t))
 StopMeans s t OutOfMemory = Unit {0}
 
 -- what a refusal of the identity on n qubits says: three nodes a qubit are more than the rules allow
@@ -67,6 +88,7 @@ StartStopMeans n rules (Width number) = ⊥
 StartStopMeans n rules (Nodes number order full) = (number ≡ 0) × (order ≡ range_with_len 0 (2 * n)) × (full ≡ rules.nodes) × (rules.nodes < 3 * n)
 StartStopMeans n rules OutOfMemory = Unit {0}
 
+-- ---- a kept matrix
 -- the number of qubits, the rules, the steps accepted so far, and the diagrams with the integers
 pub record State : Type 0 where
   pub qubits : ℕ
@@ -74,11 +96,6 @@ pub record State : Type 0 where
   pub steps : List Step
   pub diagrams : Shared
   pub quad : SliceQuad
-
--- where there were too few nodes for a step on the matrix: its work functions alone need as many as the rules let be held
-abbrev pub NeedsNodes : State → Step → Stop → Type 0
-NeedsNodes m t (Nodes number order full) = m.rules.nodes ≤ size (length order) order (work_in m.diagrams.store (sliced_step m.qubits t) m.quad)
-NeedsNodes m t _ = Unit {0}
 
 -- what the matrix stands by
 abbrev pub standing_of : State → Standing

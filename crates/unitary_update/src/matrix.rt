@@ -53,7 +53,7 @@ impl SlicedMatrix {
     ghost use Rattle.slice_quad.specs.Vectors.{Stands};
     ghost use Rattle.comparison.specs.Products.{gate_of, work_matrix};
     ghost use Rattle.comparison.specs.Products.Step.{left, right};
-    ghost use Rattle.unitary_update.specs.Kept.{standing_of, step_in, begun, Accepts, StopMeans, StartStopMeans, NeedsNodes, ShowsMatrix};
+    ghost use Rattle.unitary_update.specs.Kept.{standing_of, step_in, begun, Accepts, StopMeans, StartStopMeans, ShowsMatrix};
 
     /// The identity, with no step accepted yet.
     ///
@@ -94,7 +94,6 @@ impl SlicedMatrix {
         ensures accepts { OnOk result (Accepts (standing_of self.old) (left gate.now) (standing_of self.new)) }
         ensures stops { IfErr result (StopMeans (standing_of self.old) (left gate.now)) }
         ensures refused { OnErr result (standing_of self.new ≡ standing_of self.old) }
-        ensures needs { IfErr result (NeedsNodes self.old (left gate.now)) }
     {
         let factor = Gate::new(alloc, gate.kind(), gate.on());
         self.accept(alloc, MatrixStep::Left(factor))
@@ -107,7 +106,6 @@ impl SlicedMatrix {
         ensures accepts { OnOk result (Accepts (standing_of self.old) (right gate.now) (standing_of self.new)) }
         ensures stops { IfErr result (StopMeans (standing_of self.old) (right gate.now)) }
         ensures refused { OnErr result (standing_of self.new ≡ standing_of self.old) }
-        ensures needs { IfErr result (NeedsNodes self.old (right gate.now)) }
     {
         let factor = Gate::new(alloc, gate.kind(), gate.on());
         self.accept(alloc, MatrixStep::Right(factor))
@@ -120,7 +118,6 @@ impl SlicedMatrix {
         ensures accepts { OnOk result (Accepts (standing_of self.old) (step_in factor) (standing_of self.new)) }
         ensures stops { IfErr result (StopMeans (standing_of self.old) (step_in factor)) }
         ensures refused { OnErr result (standing_of self.new ≡ standing_of self.old) }
-        ensures needs { IfErr result (NeedsNodes self.old (step_in factor)) }
     {
         let accepted = self.accepted();
         self.steps.reserve(1)?;

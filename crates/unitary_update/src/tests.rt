@@ -1,4 +1,4 @@
-//! Matrices of all kinds of gates from both sides, the order of products, and the limit of the identity.
+//! Matrices of all kinds of gates from both sides, the order of products, and the limit of the identity and of a step.
 ghost use Rattle.std.specs.Prelude.{◌≡◌, ◌≤◌, ◌<◌, ℕ, length};
 ghost use Rattle.gate_set.specs.Matrix.{arity_of};
 ghost use Rattle.gate_set.specs.Shape.{IsOn};
@@ -47,22 +47,33 @@ fn with_nodes(nodes: u32) -> Rules
     }
 }
 
-/// The identity.
-fn fresh(rt: &impl Abort, alloc: Global, qubits: u8) -> SlicedMatrix
-    requires { qubits ≤ 64 }
+/// The identity, with so many nodes.
+fn roomy(rt: &impl Abort, alloc: Global, qubits: u8, nodes: u32) -> SlicedMatrix
+    requires few { qubits ≤ 64 }
+    requires least { 64 ≤ nodes }
+    requires greatest { nodes ≤ 1048576 }
     ensures { result.qubits ≡ qubits }
 {
-    let Ok(matrix) = SlicedMatrix::identity(alloc, qubits, &with_nodes(1_048_576)) else {
+    let Ok(matrix) = SlicedMatrix::identity(alloc, qubits, &with_nodes(nodes)) else {
         panic!(rt; "no room");
     };
     matrix
 }
 
-/// A gate on one qubit.
-fn single(alloc: Global, kind: Kind, q: u8) -> Gate
+/// The identity, with many nodes.
+fn fresh(rt: &impl Abort, alloc: Global, qubits: u8) -> SlicedMatrix
+    requires { qubits ≤ 64 }
+    ensures { result.qubits ≡ qubits }
+{
+    roomy(rt, alloc, qubits, 1_048_576)
+}
+
+/// A gate on one of so many qubits.
+fn single(alloc: Global, kind: Kind, q: u8, qubits: u8) -> Gate
     requires one { arity_of kind ≡ 1 }
-    requires small { q < 64 }
-    ensures { (n : ℕ) → q < n → IsOn n result }
+    requires within { q < qubits }
+    requires few { qubits ≤ 64 }
+    ensures { IsOn qubits result }
 {
     Gate::new(alloc, kind, &[q])
 }
@@ -264,40 +275,70 @@ fn four_entries(m: &SlicedMatrix) -> (Quad, Quad, Quad, Quad)
     )
 }
 
+/// The entries on one qubit after a gate from the left and then one from the right.
+fn left_then_right(
+    rt: &impl Abort,
+    alloc: Global,
+    one: &Gate,
+    other: &Gate,
+) -> (Quad, Quad, Quad, Quad)
+    requires one { IsOn 1 one.now }
+    requires other { IsOn 1 other.now }
+{
+    let mut m = fresh(rt, alloc, 1);
+    left(rt, alloc, &mut m, one);
+    right(rt, alloc, &mut m, other);
+    four_entries(&m)
+}
+
+/// The entries on one qubit after a gate from the right and then one from the left.
+fn right_then_left(
+    rt: &impl Abort,
+    alloc: Global,
+    one: &Gate,
+    other: &Gate,
+) -> (Quad, Quad, Quad, Quad)
+    requires one { IsOn 1 one.now }
+    requires other { IsOn 1 other.now }
+{
+    let mut m = fresh(rt, alloc, 1);
+    right(rt, alloc, &mut m, one);
+    left(rt, alloc, &mut m, other);
+    four_entries(&m)
+}
+
+/// The entries on one qubit after two gates from the left.
+fn left_twice(rt: &impl Abort, alloc: Global, one: &Gate, other: &Gate) -> (Quad, Quad, Quad, Quad)
+    requires one { IsOn 1 one.now }
+    requires other { IsOn 1 other.now }
+{
+    let mut m = fresh(rt, alloc, 1);
+    left(rt, alloc, &mut m, one);
+    left(rt, alloc, &mut m, other);
+    four_entries(&m)
+}
+
 #[test]
 fn t_on_both_sides(rt: HostRuntime) {
     let alloc = rt.alloc();
-    let t = single(alloc, Kind::T, 0);
-    let tdg = single(alloc, Kind::Tdg, 0);
+    let t = single(alloc, Kind::T, 0, 1);
+    let tdg = single(alloc, Kind::Tdg, 0, 1);
     let identity = (omega(0), Quad::ZERO, Quad::ZERO, omega(0));
-    let mut m = fresh(&rt, alloc, 1);
-    left(&rt, alloc, &mut m, &t);
-    right(&rt, alloc, &mut m, &tdg);
-    assert_eq!(rt; four_entries(&m), identity);
-    let mut m = fresh(&rt, alloc, 1);
-    right(&rt, alloc, &mut m, &tdg);
-    left(&rt, alloc, &mut m, &t);
-    assert_eq!(rt; four_entries(&m), identity);
-    assert_eq!(rt; (m.exponent(), m.accepted()), (0, 2));
+    assert_eq!(rt; left_then_right(&rt, alloc, &t, &tdg), identity);
+    assert_eq!(rt; right_then_left(&rt, alloc, &tdg, &t), identity);
 }
 
 #[test]
 fn x_and_t_in_both_orders(rt: HostRuntime) {
     let alloc = rt.alloc();
-    let x = single(alloc, Kind::X, 0);
-    let t = single(alloc, Kind::T, 0);
-    let mut m = fresh(&rt, alloc, 1);
-    left(&rt, alloc, &mut m, &x);
-    right(&rt, alloc, &mut m, &t);
+    let x = single(alloc, Kind::X, 0, 1);
+    let t = single(alloc, Kind::T, 0, 1);
     assert_eq!(rt;
-        four_entries(&m),
+        left_then_right(&rt, alloc, &x, &t),
         (Quad::ZERO, omega(1), omega(0), Quad::ZERO)
     );
-    let mut m = fresh(&rt, alloc, 1);
-    left(&rt, alloc, &mut m, &x);
-    left(&rt, alloc, &mut m, &t);
     assert_eq!(rt;
-        four_entries(&m),
+        left_twice(&rt, alloc, &x, &t),
         (Quad::ZERO, omega(0), omega(1), Quad::ZERO)
     );
 }
@@ -320,10 +361,39 @@ fn three_nodes_a_qubit(rt: HostRuntime) {
     assert!(rt; SlicedMatrix::identity(alloc, 22, &with_nodes(67)).is_ok());
 }
 
+/// Multiplies from the left in vain, for want of a node more than 64.
+fn left_in_vain(rt: &impl Abort, alloc: Global, m: &mut SlicedMatrix, gate: &Gate)
+    requires { IsOn m.old.qubits gate.now }
+{
+    if m.accepted() >= 2_000_000 {
+        panic!(rt; "too many");
+    }
+    match m.left(alloc, gate) {
+        Err(
+            Stop::Nodes {
+                gate: 1,
+                held: 64,
+                ..
+            },
+        ) => {}
+        _ => panic!(rt; "no want of nodes"),
+    }
+}
+
+/// The identity on 21 qubits takes 63 nodes of 64.
+#[test]
+fn a_step_without_room(rt: HostRuntime) {
+    let alloc = rt.alloc();
+    let h = single(alloc, Kind::H, 0, 21);
+    let mut m = roomy(&rt, alloc, 21, 64);
+    left_in_vain(&rt, alloc, &mut m, &h);
+    assert_eq!(rt; (m.accepted(), m.exponent()), (0, 0));
+}
+
 #[test]
 fn sixty_four_qubits(rt: HostRuntime) {
     let alloc = rt.alloc();
-    let h = single(alloc, Kind::H, 63);
+    let h = single(alloc, Kind::H, 63, 64);
     let mut m = fresh(&rt, alloc, 64);
     left(&rt, alloc, &mut m, &h);
     right(&rt, alloc, &mut m, &h);

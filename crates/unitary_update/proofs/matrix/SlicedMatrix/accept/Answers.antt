@@ -3,7 +3,6 @@ use Rattle.std.proofs.lemmas.List.{map_push}
 use Rattle.gate_set.specs.Shape.{IsOn}
 use Rattle.circuit_model.specs.Working.{FitsWidth}
 use Rattle.comparison.specs.Products.{Step, gate_of, raw_matrix, work_matrix, RawStepFits}
-use Rattle.diagram_model.specs.Size.{size}
 use Rattle.diagram_model.specs.Stores.{Diagram}
 use Rattle.slice_quad.specs.declared.quad.SliceQuad.{SliceQuad}
 use Rattle.slice_quad.specs.RowsColumns.{KeepsRowEqualsColumn}
@@ -12,8 +11,9 @@ use Rattle.step_upkeep.specs.Upkept as quads
 use Rattle.step_upkeep.specs.Upkept.{work_in}
 use Rattle.slice_quad.specs.Vectors.{Stands}
 use Rattle.unitary_update.specs.declared.accepted.MatrixStep.{MatrixStep}
-use Rattle.unitary_update.specs.Kept.{State, Standing, IsKept, standing_of, with_step, step_in, sliced_step}
+use Rattle.unitary_update.specs.Kept.{State, Standing, IsKept, standing_of, with_step, step_in, sliced_step, work_of, needed}
 use Rattle.unitary_update.proofs.MatrixLemmas.{size_of_order, state_with, kept_next, kept_stop, shows_on, keeps_on, fits_state, state_fits}
+use Rattle.unitary_update.proofs.NodeLemmas.{step_needs}
 use Rattle.unitary_update.proofs.matrix.SlicedMatrix.accept.Goals as goal
 
 pub multiply-requires-clause-variables : goal.multiply-requires-clause-variables
@@ -158,18 +158,5 @@ returns-in-Err-Full-clause-stops c =
     let number = ap (λ (k : ℕ). k + 1) c.accepted-accepted.ensures.value in
     let order = c.order.ensures ∙ ap (λ (d : Diagram). d.order) c.store.ensures.value ∙ keeps.order ∙ ap (λ (m : State). m.diagrams.store.order) c.self.view_is in
     let told : c.in-Err-Full.held ≡ c.args.self.now.rules.nodes = full.0 ∙ h.limit ∙ ap (λ (m : State). m.rules.nodes) c.self.view_is in
-    (number, order, told)
-
-pub returns-in-Err-Full-clause-needs : goal.returns-in-Err-Full-clause-needs
-returns-in-Err-Full-clause-needs c =
-    let s = c.self.inside in let t : Step = step_in c.args.factor in
-    let shown : State = state_with s.qubits s.rules (map step_in s.steps.items) s.diagrams s.quad in
-    let h = c.self.invariant in
-    let w = work_matrix s.qubits (map step_in s.steps.items) in
-    let u = s.diagrams in let v = c.multiply.new.d in
-    let keeps = c.multiply.ensures.keeps in
-    let full = subst (quads.NeedsNodes u.store (work_in u.store (sliced_step s.qubits t) s.quad)) c.in-Err-Full.field-0-is c.in-Err-Full.ensures.full in
-    let order = c.order.ensures ∙ ap (λ (d : Diagram). d.order) c.store.ensures.value ∙ keeps.order in
-    let least : s.rules.nodes ≤ size (length u.store.order) u.store.order (work_in u.store (sliced_step s.qubits t) s.quad) = subst (λ i. i ≤ size (length u.store.order) u.store.order (work_in u.store (sliced_step s.qubits t) s.quad)) h.limit full.1 in
-    let named : s.rules.nodes ≤ size (length c.order.result) c.order.result (work_in u.store (sliced_step s.qubits t) s.quad) = subst (λ (o : List ℕ). s.rules.nodes ≤ size (length o) o (work_in u.store (sliced_step s.qubits t) s.quad)) (sym order) least in
-    subst (λ (m : State). m.rules.nodes ≤ size (length c.order.result) c.order.result (work_in m.diagrams.store (sliced_step m.qubits t) m.quad)) c.self.view_is named
+    let needs : s.rules.nodes ≤ needed (standing_of shown) (work_of (standing_of shown) t) = step_needs shown h t full.1 in
+    (number, order, told, subst (λ (m : State). m.rules.nodes ≤ needed (standing_of m) (work_of (standing_of m) t)) c.self.view_is needs)

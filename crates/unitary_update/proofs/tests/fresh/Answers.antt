@@ -1,6 +1,0 @@
-use Rattle.std.proofs.Common.{ap}
-use Rattle.unitary_update.specs.Kept.{Standing}
-use Rattle.unitary_update.proofs.tests.fresh.Goals as goal
-
-pub returns : goal.returns
-returns c = ap (λ (s : Standing). s.qubits) c.in-Ok.ensures.begins
