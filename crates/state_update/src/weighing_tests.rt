@@ -9,7 +9,7 @@ use crate::tests::{fresh, single};
 use amp_dense::{Amplitudes, DenseState, Rules};
 use bit_lists::{Bits, Partial};
 use gate_set::{Gate, Kind};
-use probabilities::{Weigh, WeighStop, measured_count};
+use probabilities::{Weigh, WeighStop};
 use ring_omega::Weight;
 use std::alloc::Global;
 use std::process::Abort;
@@ -108,23 +108,6 @@ fn weights_of_four_qubits_both_ways(rt: HostRuntime) {
             "{number}"
         );
     }
-    let mut measured = Bits::zeros(4);
-    measured.set(0, true);
-    measured.set(2, true);
-    assert_eq!(rt;
-        place_after(&rt, alloc, &sliced, &measured, None),
-        place_after(&rt, alloc, &dense, &measured, None)
-    );
-    if measured_count(&measured) == 2 {
-        for place in 0..4u8 {
-            let y = Bits::at_place(u128::from(place), 2);
-            assert_eq!(rt;
-                place_after(&rt, alloc, &sliced, &measured, Some(&y)),
-                place_after(&rt, alloc, &dense, &measured, Some(&y)),
-                "{place}"
-            );
-        }
-    }
 }
 
 // 2^40 states, of which 2^38 agree. Each entry is 1 over the 40th power of the root of 2.
@@ -143,10 +126,4 @@ fn weight_of_forty_qubits_at_once(rt: HostRuntime) {
     measured.set(0, true);
     measured.set(39, true);
     assert_eq!(rt; place_after(&rt, alloc, &state, &measured, None), 0);
-    if measured_count(&measured) == 2 {
-        assert_eq!(rt;
-            place_after(&rt, alloc, &state, &measured, Some(&Bits::zeros(2))),
-            1
-        );
-    }
 }
