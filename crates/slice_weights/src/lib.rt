@@ -6,12 +6,15 @@
 mod asking;
 mod integer;
 mod outcome;
+mod path;
 mod places;
 mod summing;
 #[cfg(test)]
 mod tests;
 mod tuple;
+mod walk;
 mod weighing;
 
 pub use outcome::next_outcome;
+pub use walk::Walk;
 pub use weighing::weigh;
