@@ -5,9 +5,10 @@ use Rattle.std.proofs.lemmas.Bool.{cases_Bool, false≢true}
 use Rattle.std.proofs.lemmas.List.{get_or_append_left, get_or-take, length-set}
 use Rattle.diagram_model.specs.Functions.{bit}
 use Rattle.ring_omega.specs.Ring.{zero_quad}
+use Rattle.amp_dense.specs.Nonzero.{IsLastNonzero}
 use Rattle.slice_quad.specs.Nonzero.{IsNextNonzero}
 use Rattle.slice_quad.specs.Walks.{Entries, Shares, IsNonzeroFrom, AreZeroFrom, IsBeforeAt, IsLeastFrom, AreZeroBeyond, IsBranch}
-use Rattle.slice_quad.proofs.Walking.{shares_more, ext_bits, next_after, beyond_zero}
+use Rattle.slice_quad.proofs.Walking.{shares_more, ext_bits, before_at, next_after, beyond_zero}
 use Rattle.slice_weights.specs.Paths.{IsTurn}
 use Rattle.slice_weights.proofs.Ways.{last_bit, shares_append}
 
@@ -182,3 +183,71 @@ next_turn n v x r y k long h size least =
       rest = h.rest;
     })
     (least_shares n v (p + 1) r (set x p true) y same (subst (λ i. IsLeastFrom n v i r y) at least))
+
+-- ---- the last one
+-- r is the first bits of the last list whose entry isn't zero
+pub record IsRising (n : ℕ) (v : Entries) (r : List Bool) : Type 0 where
+  pub some : IsNonzeroFrom n v (length r) r
+  pub last : (y : List Bool) (j : ℕ) → length y ≡ n → j < length r → IsBeforeAt j r y → v y ≡ zero_quad
+
+pub rising_none : (n : ℕ) (v : Entries) (x : List Bool) → x ≡ [] → IsNonzeroFrom n v (length x) x → IsRising n v x
+rising_none n v x is some = record { some = some; last = λ y j wide lt h. absurd (omega (arith, ap length is)) }
+
+later : (n : ℕ) (v : Entries) (r s : List Bool) (b : Bool) (y : List Bool) (j : ℕ) → IsRising n v r → s ≡ r ++ b ∷ [] → length y ≡ n → j < length r → IsBeforeAt j s y → v y ≡ zero_quad
+later n v r s b y j h is wide lt before =
+    h.last y j wide lt (record {
+      same = λ i less. sym (shares_append r b i (omega arith)) ∙ ap (λ l. bit l i) (sym is) ∙ before.same i less;
+      low = sym (shares_append r b j lt) ∙ ap (λ l. bit l j) (sym is) ∙ before.low;
+      high = before.high;
+    })
+
+-- a 1, where some entry isn't zero then
+pub rising_high : (n : ℕ) (v : Entries) (r s : List Bool) → IsRising n v r → s ≡ r ++ true ∷ [] → IsNonzeroFrom n v (length s) s → IsRising n v s
+rising_high n v r s h is some =
+    let more = longer r s true is in
+    record {
+      some = some;
+      last = λ y j wide lt before. elim (at_or_before j (length r) (length s) more lt) [
+        | inl same ↦ absurd (clash_of (bit s j) before.low (ap (bit s) same ∙ here r s true is))
+        | inr less ↦ later n v r s true y j h is wide less before
+      ];
+    }
+
+-- a 0, where all entries with a 1 there are zero
+pub rising_low : (n : ℕ) (v : Entries) (r s t : List Bool) → IsRising n v r → s ≡ r ++ true ∷ [] → t ≡ r ++ false ∷ [] → AreZeroFrom n v (length s) s → IsRising n v t
+rising_low n v r s t h is_high is none =
+    let more = longer r t false is in
+    let same_length : length s ≡ length r + 1 = longer r s true is_high in
+    let w = h.some in
+    let on : bit s (length r) ≡ true = here r s true is_high in
+    let off : bit t (length r) ≡ false = here r t false is in
+    let zeros : (y : List Bool) → length y ≡ n → Shares (length r) y r → bit y (length r) ≡ true → v y ≡ zero_quad = λ y wide shares high. none y wide (λ i lt.
+        shares_more y s (length r) (λ j less. shares j less ∙ sym (alike r s true is_high j less)) (high ∙ sym on) i (omega arith)) in
+    record {
+      some = record {
+        at = w.at;
+        long = w.long;
+        shares = elim (cases_Bool (bit w.at (length r))) [
+          | inl one ↦ absurd (w.nonzero (zeros w.at w.long w.shares one))
+          | inr nought ↦ λ i lt. shares_more w.at t (length r) (λ j less. w.shares j less ∙ sym (alike r t false is j less)) (nought ∙ sym off) i (omega arith)
+        ];
+        nonzero = w.nonzero;
+      };
+      last = λ y j wide lt before. elim (at_or_before j (length r) (length t) more lt) [
+        | inl same ↦ zeros y wide (λ i less. sym (before.same i (omega arith)) ∙ alike r t false is i less) (ap (bit y) (sym same) ∙ before.high)
+        | inr less ↦ later n v r t false y j h is wide less before
+      ];
+    }
+
+pub rising_done : (n : ℕ) (v : Entries) (r : List Bool) → length r ≡ n → IsRising n v r → IsLastNonzero n v r
+rising_done n v r long h =
+    let w = h.some in
+    let wide = w.long in
+    let is : w.at ≡ r = ext_bits w.at r (w.long ∙ sym long) (λ j lt. w.shares j (omega arith)) in
+    record {
+      long = long;
+      nonzero = λ e. w.nonzero (ap v is ∙ e);
+      last = λ y wider behind.
+          let b = before_at r y (long ∙ sym wider) behind in
+          h.last y b.0 wider b.1 b.2;
+    }

@@ -16,5 +16,5 @@ mod walk;
 mod weighing;
 
 pub use outcome::next_outcome;
-pub use walk::Walk;
+pub use walk::{Walk, last_nonzero};
 pub use weighing::weigh;

@@ -2,6 +2,7 @@
 ghost use Rattle.std.specs.Prelude.{◌≡◌, ◌<◌, ◌≤◌, [], true, false, None, Some, length, IfOk, OnOk, IfSome, IfNone};
 ghost use Rattle.std.specs.List.{range_with_len};
 ghost use Rattle.slice_quad.specs.Nonzero.{IsNextNonzero, NoneAfter};
+ghost use Rattle.amp_dense.specs.Nonzero.{IsLastNonzero};
 ghost use Rattle.slice_quad.specs.Vectors.{Stands};
 ghost use Rattle.slice_quad.specs.Walks.{entries_in, IsNonzeroFrom, IsLeastFrom, AreZeroBeyond};
 ghost use Rattle.slice_weights.specs.Paths.{IsWay, IsTurn, IsWalk};
@@ -140,6 +141,45 @@ fn descend(store: &Store, of: &Four, path: &mut Path) -> Result<(), OutOfMemory>
         if !path.is_nonzero(store, of) {
             path.pop(store, of);
             path.push(store, of, true)?;
+        }
+    }
+    Ok(())
+}
+
+/// The last basis state whose entry isn't zero; None where there is none. The order of variables is the natural one.
+///
+/// Asks one row of nodes for each qubit, or two.
+pub fn last_nonzero(
+    alloc: Global,
+    d: &Diagrams,
+    q: &SliceQuad,
+) -> Result<Option<Bits>, OutOfMemory>
+    requires natural { d.now.store.order ≡ range_with_len 0 (length d.now.store.order) }
+    requires stands { Stands d.now.store q.now }
+    ensures found { IfOk result (λ last. IfSome last (IsLastNonzero (length d.now.store.order) (entries_in d.now.store q.now.four))) }
+    ensures none { IfOk result (λ last. IfNone last (NoneAfter (length d.now.store.order) (entries_in d.now.store q.now.four) None)) }
+{
+    let mut path = Path::begin(alloc, d, q)?;
+    if !path.is_nonzero(d.store(), &q.four) {
+        return Ok(None);
+    }
+    rise(d.store(), &q.four, &mut path)?;
+    Ok(Some(path.at()))
+}
+
+// Goes down to the last basis state of all whose entry isn't zero.
+fn rise(store: &Store, of: &Four, path: &mut Path) -> Result<(), OutOfMemory>
+    requires way { IsWay store.now of.now path.old }
+    requires natural { store.now.order ≡ range_with_len 0 (length store.now.order) }
+    requires begin { path.old.at ≡ [] }
+    requires some { IsNonzeroFrom (length store.now.order) (entries_in store.now of.now) (length path.old.at) path.old.at }
+    ensures { OnOk result (IsLastNonzero (length store.now.order) (entries_in store.now of.now) path.new.at) }
+{
+    for _ in 0..store.order().len() {
+        path.push(store, of, true)?;
+        if !path.is_nonzero(store, of) {
+            path.pop(store, of);
+            path.push(store, of, false)?;
         }
     }
     Ok(())
