@@ -5,3 +5,5 @@ pub mod Weighed
 pub mod Known
 pub mod Gathering
 pub mod Outcomes
+pub mod CountsAt
+pub mod Counted

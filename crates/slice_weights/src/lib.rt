@@ -4,6 +4,7 @@
 #![tactic(auto)]
 
 mod asking;
+mod counting;
 mod integer;
 mod outcome;
 mod places;
@@ -13,5 +14,6 @@ mod tests;
 mod tuple;
 mod weighing;
 
+pub use counting::count_nonzero;
 pub use outcome::next_outcome;
 pub use weighing::weigh;
