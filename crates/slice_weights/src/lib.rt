@@ -5,6 +5,8 @@
 
 mod asking;
 mod counting;
+#[cfg(test)]
+mod counting_tests;
 mod integer;
 mod outcome;
 mod places;
