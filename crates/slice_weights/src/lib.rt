@@ -1,4 +1,5 @@
-//! Exact weights of the states of a vector over decision diagrams, and the outcomes that a measurement of it may have.
+//! Exact weights of the states of a vector over decision diagrams, the outcomes that a measurement of it may have, and how many states have an
+//! entry that isn't zero.
 //!
 //! No basis state is listed: sums are taken once for each different list of nodes that is met on the way down.
 #![tactic(auto)]
