@@ -7,3 +7,5 @@ pub mod Gathering
 pub mod Outcomes
 pub mod Ways
 pub mod Turns
+pub mod CountsAt
+pub mod Counted

@@ -1,9 +1,13 @@
-//! Exact weights of the states of a vector over decision diagrams, and the outcomes that a measurement of it may have.
+//! Exact weights of the states of a vector over decision diagrams, the outcomes that a measurement of it may have, and how many states have an
+//! entry that isn't zero.
 //!
 //! No basis state is listed: sums are taken once for each different list of nodes that is met on the way down.
 #![tactic(auto)]
 
 mod asking;
+mod counting;
+#[cfg(test)]
+mod counting_tests;
 mod integer;
 mod outcome;
 mod path;
@@ -15,6 +19,7 @@ mod tuple;
 mod walk;
 mod weighing;
 
+pub use counting::count_nonzero;
 pub use outcome::next_outcome;
 pub use walk::{Walk, last_nonzero};
 pub use weighing::weigh;
