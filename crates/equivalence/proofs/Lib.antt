@@ -1,4 +1,5 @@
 pub mod Alike
+pub mod Enough
 pub mod Places
 pub mod Rests
 pub mod Stepping

@@ -1,4 +1,5 @@
 pub mod Digits
+pub mod Enough
 pub mod Gates
 pub mod Keeping
 pub mod Roots

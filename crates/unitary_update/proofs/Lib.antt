@@ -1,3 +1,4 @@
+pub mod Enough
 pub mod MatrixLemmas
 pub mod NodeLemmas
 pub mod Woven

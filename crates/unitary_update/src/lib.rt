@@ -2,11 +2,13 @@
 #![tactic(auto)]
 
 mod accepted;
+mod laws;
 mod matrix;
 mod multiplying;
 mod weaving;
 
 pub use accepted::MatrixStep;
+pub use laws::enough_nodes;
 pub use matrix::SlicedMatrix;
 
 #[cfg(test)]
