@@ -3,7 +3,9 @@ pub mod Enough
 pub mod Gates
 pub mod Keeping
 pub mod Roots
+pub mod StepFor
 pub mod Stored
+pub mod StoredAfter
 pub mod Trying
 pub mod Values
 pub mod Widths
