@@ -11,11 +11,11 @@ use Rattle.slice_quad.specs.declared.kind.Step.{Step}
 use Rattle.slice_quad.specs.Mix.{Vector}
 use Rattle.slice_quad.specs.Stepping.{stepped}
 use Rattle.slice_gates.specs.declared.side.Side.TheVariants.{State}
-use Rattle.slice_gates.specs.Shown.{at_lists, first_values, AgreeBelow, ReadsBelow, by_values}
+use Rattle.slice_gates.specs.Shown.{at_lists, first_values, ReadsBelow, by_values}
 use Rattle.slice_gates.specs.Stepped.{IsStepOf, step_for}
 use Rattle.slice_gates.proofs.Agreeing.{length-first_values, at_list, stepped-reads}
 use Rattle.slice_gates.proofs.Weaving.{on_state}
-use Rattle.step_upkeep.proofs.StepFor.{step_is}
+use Rattle.step_upkeep.proofs.StepFor.{step_is, values_agree}
 
 first_bit : (n : ℕ) (y : List Bool) → length y ≡ n → first_values n (bit y) ≡ y
 unfolding first_values
@@ -23,13 +23,6 @@ first_bit zero [] len = refl
 first_bit zero (b ∷ y) len = absurd (omega (arith, len))
 first_bit (suc n) [] len = absurd (omega (arith, len))
 first_bit (suc n) (b ∷ y) len = ap (λ (r : List Bool). b ∷ r) (first_bit n y (omega (arith, len)))
-
-values_agree : (n : ℕ) (x y : Assignment) → AgreeBelow n x y → first_values n x ≡ first_values n y
-unfolding first_values
-values_agree zero x y same = refl
-values_agree (suc n) x y same =
-    ap (λ (b : Bool). b ∷ first_values n (λ i. x (suc i))) (same 0 (omega arith))
-    ∙ ap (λ (r : List Bool). y 0 ∷ r) (values_agree n (λ i. x (suc i)) (λ i. y (suc i)) (λ i less. same (suc i) (omega (arith, less))))
 
 reads_values : (n : ℕ) (v : List Bool → Quad) → ReadsBelow n (by_values n v)
 unfolding by_values

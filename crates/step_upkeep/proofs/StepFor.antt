@@ -1,5 +1,5 @@
 -- The step that a gate is, whatever the side and the vector.
-use Rattle.std.proofs.Common.{◌≡◌, ℕ, zero, suc, ◌+◌, ◌-◌, ◌^◌, ◌<◌, ◌≤◌, Bool, true, false, List, [], ◌∷◌, All, length, get_or, map, replicate, set, inl, inr, refl, ◌∙◌, subst, arith}
+use Rattle.std.proofs.Common.{◌≡◌, ℕ, zero, suc, ◌+◌, ◌-◌, ◌^◌, ◌<◌, ◌≤◌, Bool, true, false, List, [], ◌∷◌, All, length, get_or, map, replicate, set, inl, inr, refl, ◌∙◌, ap, subst, arith}
 use Rattle.std.proofs.lemmas.Bool.{cases_Bool}
 use Rattle.std.proofs.lemmas.List.{length-map}
 use Rattle.std.proofs.lemmas.List.Elements.{All-map}
@@ -10,9 +10,11 @@ use Rattle.gate_set.specs.declared.kind.Kind.TheVariants.{Id, X, Y, Z, H, S, Sdg
 use Rattle.gate_set.specs.Matrix.{arity_of, half_power_of, IsReduced}
 use Rattle.gate_set.specs.Shape.{IsPlaced}
 use Rattle.gate_set.proofs.MatrixLemmas.{IsReduced-entry_of}
+use Rattle.diagram_model.specs.Functions.{Assignment}
 use Rattle.slice_quad.specs.declared.kind.Step.{Step}
 use Rattle.slice_gates.specs.declared.side.Side.{Side}
 use Rattle.slice_gates.specs.declared.side.Side.TheVariants.{State, Rows, Columns}
+use Rattle.slice_gates.specs.Shown.{first_values, AgreeBelow}
 use Rattle.slice_gates.specs.Sides.{place_on, entry_on}
 use Rattle.slice_gates.specs.Stepped.{exchanges, HaveControls, IsStepOf, step_for}
 use Rattle.slice_gates.proofs.Controls.{controls_begin, controls_more}
@@ -102,3 +104,11 @@ module _ (n : ℕ) (side : Side) (g : Gate) (placed : IsPlaced g.kind g.on) (wit
 
   pub step_is : IsStepOf n side g (step_for n side g)
   step_is = elim (cases_Bool (exchanges g.kind)) [ inl two ↦ crossed_is two | inr one ↦ mixed_is one ]
+
+-- ---- the values of variables
+pub values_agree : (n : ℕ) (x y : Assignment) → AgreeBelow n x y → first_values n x ≡ first_values n y
+unfolding first_values
+values_agree zero x y same = refl
+values_agree (suc n) x y same =
+    ap (λ (b : Bool). b ∷ first_values n (λ i. x (suc i))) (same 0 (omega arith))
+    ∙ ap (λ (r : List Bool). y 0 ∷ r) (values_agree n (λ i. x (suc i)) (λ i. y (suc i)) (λ i less. same (suc i) (omega (arith, less))))

@@ -25,11 +25,11 @@ use Rattle.unitary_update.specs.Kept.{State, IsKept, standing_of, sliced_step, b
 use Rattle.unitary_update.proofs.MatrixLemmas.{size_of_order}
 
 -- ---- the matrix over the variables
-values_same : (n : ℕ) (x y : Assignment) → ((i : ℕ) → x i ≡ y i) → first_values n x ≡ first_values n y
+pub values_same : (n : ℕ) (x y : Assignment) → ((i : ℕ) → x i ≡ y i) → first_values n x ≡ first_values n y
 values_same n x y same = ap (first_values n) (fun_ext (λ i. same i))
 
 -- the row's bits and the column's in turns are the values of all variables
-woven_values : (n : ℕ) (x : Assignment) → woven (first_values n (λ q. x (2 * q))) (first_values n (λ q. x (2 * q + 1))) ≡ first_values (2 * n) x
+pub woven_values : (n : ℕ) (x : Assignment) → woven (first_values n (λ q. x (2 * q))) (first_values n (λ q. x (2 * q + 1))) ≡ first_values (2 * n) x
 unfolding first_values
 woven_values zero x = let none : 2 * zero ≡ zero = omega arith in ap (λ k. first_values k x) (sym none)
 woven_values (suc n) x =

@@ -8,7 +8,7 @@ mod multiplying;
 mod weaving;
 
 pub use accepted::MatrixStep;
-pub use laws::enough_nodes;
+pub use laws::{each_step_has_an_end, enough_nodes};
 pub use matrix::SlicedMatrix;
 
 #[cfg(test)]
