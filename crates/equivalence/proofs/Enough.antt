@@ -18,7 +18,7 @@ use Rattle.unitary_update.proofs.Enough as steps
 use Rattle.equivalence.specs.Stops.{standing_after, NextNeedsNodes, MayLackNodes, StopMeans}
 
 -- ---- each step is one on the circuits' qubits
-abbrev IsStepOn : ℕ → Step → Type 0
+abbrev pub IsStepOn : ℕ → Step → Type 0
 IsStepOn n s = IsOn n (gate_of s)
 
 lefts_on : (n : ℕ) (us : List Gate) → All (IsOn n) us → All (IsStepOn n) (map left us)
@@ -27,7 +27,7 @@ lefts_on n us on = All-map (IsStepOn n) left us on
 rights_on : (n : ℕ) (vs : List Gate) → All (IsOn n) vs → All (IsStepOn n) (map (λ v. right (inverse_gate v)) vs)
 rights_on n vs on = All-map (IsStepOn n) (λ v. right (inverse_gate v)) vs (All-weaker (IsOn n) (λ v. IsOn n (inverse_gate v)) (λ v. IsOn-inverse n v) vs on)
 
-mixed_on : (n m p i j : ℕ) (us vs : List Gate) → All (IsOn n) us → All (IsOn n) vs → All (IsStepOn n) (mixed m p i j us vs)
+pub mixed_on : (n m p i j : ℕ) (us vs : List Gate) → All (IsOn n) us → All (IsOn n) vs → All (IsStepOn n) (mixed m p i j us vs)
 mixed_on n m p i j [] [] on_us on_vs = All-nil (IsStepOn n)
 mixed_on n m p i j (u ∷ us) [] on_us on_vs = lefts_on n (u ∷ us) on_us
 mixed_on n m p i j [] (v ∷ vs) on_us on_vs = rights_on n (v ∷ vs) on_vs
@@ -63,7 +63,7 @@ module _ (rules : Settings) (n : ℕ) (limit : (64 * (rules.width + 2) + 130) * 
 
   has_nodes : (steps : List Step) (number : ℕ) → All (IsStepOn n) steps → ¬ MayLackNodes rules n steps number
   has_nodes steps zero on lacks = let room = identity_room rules.width n rules.nodes limit in omega (arith, room, lacks)
-  has_nodes steps (suc before) on lacks = next_has_nodes (take before steps) (drop before steps) (All-drop (IsStepOn n) before steps on) lacks.3
+  has_nodes steps (suc before) on lacks = next_has_nodes (take before steps) (drop before steps) (All-drop (IsStepOn n) before steps on) lacks.4
 
 -- under such a limit no comparison stops for want of nodes
 pub enough : (rules : Settings) (n : ℕ) (us vs : List Gate) → All (IsOn n) us → All (IsOn n) vs → (64 * (rules.width + 2) + 130) * 2 ^ (2 * n) ≤ rules.nodes
