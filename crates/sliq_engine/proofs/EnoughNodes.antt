@@ -18,7 +18,6 @@ use Rattle.state_update.proofs.Enough.{enough}
 use Rattle.equivalence.proofs.Enough as comparisons
 use Rattle.qasm_reader.specs.Reading.{ReadsAs, circuit}
 use Rattle.qasm_reader.proofs.OneReading.{one_reading}
-use Rattle.qasm_reader.proofs.Sound.{read_is_circuit}
 use Rattle.demo_text.specs.Generator.{demo_text}
 use Rattle.demo_reads.specs.Drawn.{drawn_circuit}
 use Rattle.demo_reads.proofs.Whole.{demo_is_read}
@@ -30,6 +29,7 @@ use Rattle.sliq_engine.specs.Prob.{IsHeavy, Weighs}
 use Rattle.sliq_engine.specs.Demo.{Demonstrates}
 use Rattle.sliq_engine.specs.Eq.{Begins, MultipliesBy, Multiplies, Says, Compares}
 use Rattle.sliq_engine.specs.Laws.{NeverLacksNodes}
+use Rattle.sliq_engine.proofs.EqLemmas.{read_first, read_second}
 use Rattle.sliq_engine.proofs.SomeEnds.{same_number, read_on}
 
 -- ---- phases whose stops are all of one sort
@@ -174,9 +174,8 @@ steps_have_nodes rules u v on_u on_v limit stops.OutOfMemory h = h
 module _ (rules : Settings) (one two : List ℕ) (u : Circuit) (reads : ReadsAs one 64 (circuit u)) (limit : (64 * (rules.width + 2) + 130) * 2 ^ (2 * u.qubits) ≤ rules.nodes) where
   multiplies_stops : (v : Circuit) → Reads 2 two (Ok v) → u.qubits ≡ v.qubits → StopsBy IsOther (Multiplies rules u v)
   multiplies_stops v second same =
-      let on_u : All (IsOn u.qubits) u.gates = (read_is_circuit one 64 u (omega arith) reads).within in
-      let on_v : All (IsOn u.qubits) v.gates = subst (λ k. All (IsOn k) v.gates) (sym same) (read_is_circuit two 64 v (omega arith) second).within in
-      by_telling IsOther cause_of (MultipliesBy rules u.qubits (steps_of u.gates v.gates)) (steps_have_nodes rules u v on_u on_v limit)
+      by_telling IsOther cause_of (MultipliesBy rules u.qubits (steps_of u.gates v.gates))
+      (steps_have_nodes rules u v (read_first one two u v reads second same) (read_second one two u v reads second same) limit)
 
   -- what is said is written
   says_stops : (v : Circuit) → StopsBy IsOther (Says u v)

@@ -18,4 +18,4 @@ mod OneRun
 mod SummaryLemmas
 mod DemoLemmas
 mod EnoughNodes
-mod Complete
+mod Completeness

@@ -63,7 +63,7 @@ pub fn complete()
     ensures demo { (rules : Settings) (qubits gates seed : ℕ) → 1 ≤ qubits → qubits ≤ 64 → gates ≤ 500000 → 2 ≤ rules.width
         → AllFit rules.width (zeros qubits) (drawn_circuit qubits gates seed).gates → (64 * (rules.width + 2) + 130) * 2 ^ qubits ≤ rules.nodes
         → ComesTo (Demonstrates rules qubits gates seed) (record { cause = Cause.Done; bytes = demo_output qubits (drawn_circuit qubits gates seed).gates }) }
-    ensures eq { (rules : Settings) (one two : List ℕ) (u v : Circuit) → ReadsAs one 64 (circuit u) → ReadsAs two 64 (circuit v) → u.qubits ≡ v.qubits
+    ensures eq { (rules : Settings) (one two : List ℕ) (u v : Circuit) → ReadsAs one 64 (circuit u) → ReadsAs two 64 (circuit v) → u.qubits ≡ v.qubits → 2 ≤ rules.width
         → AllStepsFit rules.width u.qubits (steps_of u.gates v.gates) → (64 * (rules.width + 2) + 130) * 2 ^ (2 * u.qubits) ≤ rules.nodes
         → (end : Result Output Cause) → Compares rules one two end ↔ Says u v end }
 {

@@ -1,4 +1,4 @@
-use Rattle.sliq_engine.proofs.Complete.{sim_comes, prob_comes, demo_comes, eq_comes}
+use Rattle.sliq_engine.proofs.Completeness.{sim_comes, prob_comes, demo_comes, eq_comes}
 use Rattle.sliq_engine.proofs.laws.complete.Goals as goal
 
 pub returns-clause-sim : goal.returns-clause-sim
@@ -11,4 +11,4 @@ pub returns-clause-demo : goal.returns-clause-demo
 returns-clause-demo c = λ rules qubits gates seed some le few wide fits limit. demo_comes rules wide qubits gates seed some le few limit fits
 
 pub returns-clause-eq : goal.returns-clause-eq
-returns-clause-eq c = λ rules one two u v first second same fits limit. eq_comes rules one two u v first second same fits limit
+returns-clause-eq c = λ rules one two u v first second same wide fits limit. eq_comes rules wide one two u v first second same fits limit

@@ -15,9 +15,9 @@ use Rattle.amp_dense.specs.declared.stop.Stop.{Stop}
 use Rattle.amp_dense.specs.declared.stop.Stop.TheVariants as stops
 use Rattle.amp_dense.proofs.Walking.{walk_unfit, none_unfit}
 use Rattle.state_update.specs.Kept.{sliced_policy}
+use Rattle.equivalence.proofs.Enough.{identity_room}
 use Rattle.qasm_reader.specs.Reading.{ReadsAs, circuit, refusal}
 use Rattle.qasm_reader.proofs.OneReading.{one_reading}
-use Rattle.qasm_reader.proofs.Sound.{read_is_circuit}
 use Rattle.demo_text.specs.Generator.{demo_text}
 use Rattle.demo_reads.specs.Drawn.{drawn_circuit}
 use Rattle.demo_reads.proofs.Whole.{demo_is_read}
@@ -31,6 +31,7 @@ use Rattle.sliq_engine.specs.Eq.{Begins, MultipliesBy, Multiplies, Says, Compare
 use Rattle.sliq_engine.specs.Laws.{IsNoFault, ComesTo}
 use Rattle.sliq_engine.proofs.SomeEnds.{read_on}
 use Rattle.sliq_engine.proofs.EnoughNodes.{walk_has_nodes, read_same, enough_for, identity_has_nodes, steps_have_nodes}
+use Rattle.sliq_engine.proofs.EqLemmas.{read_first, read_second, some_multiplies}
 use Rattle.sliq_engine.proofs.SimLemmas.{some_sims}
 use Rattle.sliq_engine.proofs.ProbLemmas.{some_weighs}
 use Rattle.sliq_engine.proofs.DemoLemmas.{some_demonstrates}
@@ -116,21 +117,35 @@ module _ (rules : Settings) (wide : 2 ≤ rules.width) where
       (behind (λ end. end ≡ Ok output) (Simulates sliced_policy rules (zeros q) c.gates) _ (read_zeros (demo_text q n seed) c reads limit fits) (λ _ _ end e. e)))
 
 -- ---- the comparison
-module _ (rules : Settings) (one two : List ℕ) (u v : Circuit) (first : ReadsAs one 64 (circuit u)) (second : ReadsAs two 64 (circuit v)) (same : u.qubits ≡ v.qubits)
+module _ (rules : Settings) (wide : 2 ≤ rules.width) (one two : List ℕ) (u v : Circuit) (first : ReadsAs one 64 (circuit u)) (second : ReadsAs two 64 (circuit v)) (same : u.qubits ≡ v.qubits)
     (fits : AllStepsFit rules.width u.qubits (steps_of u.gates v.gates)) (limit : (64 * (rules.width + 2) + 130) * 2 ^ (2 * u.qubits) ≤ rules.nodes) where
   on_u : All (IsOn u.qubits) u.gates
-  on_u = (read_is_circuit one 64 u (omega arith) first).within
+  on_u = read_first one two u v first second same
 
   on_v : All (IsOn u.qubits) v.gates
-  on_v = subst (λ k. All (IsOn k) v.gates) (sym same) (read_is_circuit two 64 v (omega arith) second).within
+  on_v = read_second one two u v first second same
 
   multiplies_never : NeverStops (Multiplies rules u v)
   multiplies_never cause h = by h.0 h.1
     where
       by : (stop : Stop) → MultipliesBy rules u.qubits (steps_of u.gates v.gates) (Err stop) → ⊥
-      by (stops.Width number) w = first_failing-apart (RawStepFits rules.width u.qubits) (steps_of u.gates v.gates) number w fits
+      by (stops.Width number) w = first_failing-apart (RawStepFits rules.width u.qubits) (steps_of u.gates v.gates) number w.0 fits
       by (stops.Nodes number order held) w = steps_have_nodes rules u v on_u on_v limit (stops.Nodes number order held) w
       by stops.OutOfMemory w = w
+
+  -- so it is multiplied by all steps
+  multiplies : Multiplies rules u v (Ok tt)
+  multiplies = by some.0 some.1
+    where
+      room : 3 * u.qubits ≤ rules.nodes
+      room = identity_room rules.width u.qubits rules.nodes limit
+
+      some : HasSomeEnd IsNoFault (Multiplies rules u v)
+      some = some_multiplies rules u v wide room on_u on_v
+
+      by : (end : Result (Unit {0}) Cause) → Multiplies rules u v end → Multiplies rules u v (Ok tt)
+      by (Ok _) h = h
+      by (Err cause) h = absurd (multiplies_never cause h)
 
   only_says : EndsBy (Says u v) (Compares rules one two)
   only_says =
@@ -140,7 +155,7 @@ module _ (rules : Settings) (one two : List ℕ) (u v : Circuit) (first : ReadsA
       (behind (Says u v) (Begins rules u) _ (λ cause h. identity_has_nodes rules u.qubits limit h.0) (λ _ _. behind (Says u v) (Multiplies rules u v) _ multiplies_never (λ _ _ end h. h)))))
 
   says : EndsBy (Compares rules one two) (Says u v)
-  says end h = (Ok u, first, (Ok v, second, (Ok tt, (λ other. other same), (Ok tt, identity_has_nodes rules u.qubits limit, (Ok tt, fits, h)))))
+  says end h = (Ok u, first, (Ok v, second, (Ok tt, (λ other. other same), (Ok tt, identity_has_nodes rules u.qubits limit, (Ok tt, multiplies, h)))))
 
   pub eq_comes : (end : Result Output Cause) → Compares rules one two end ↔ Says u v end
   eq_comes end = (only_says end, says end)
