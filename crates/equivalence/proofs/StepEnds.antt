@@ -55,8 +55,7 @@ module _ (rules : Settings) (n : ℕ) (wide : 2 ≤ rules.width) (room : 3 * n �
   -- the next one doesn't fit
   unfit_at : (front rest : List Step) (s : Step) → IsPassed front → ¬ RawStepFits rules.width n front s → IsUnfitAt rules n (front ++ s ∷ rest) (length front + 1)
   unfit_at front rest s p fails =
-      let number : length front + 1 - 1 ≡ length front = omega arith in
-      (
+      let number : length front + 1 - 1 ≡ length front = omega arith in (
         record { front = front; element = s; rest = rest; split = refl; count = refl; before = p.fits; fails = fails },
         subst (λ k. AllStepsStored rules n (take k (front ++ s ∷ rest))) (sym number) (subst (AllStepsStored rules n) (sym (take_before front (s ∷ rest))) p.stored),
       )
@@ -65,8 +64,7 @@ module _ (rules : Settings) (n : ℕ) (wide : 2 ≤ rules.width) (room : 3 * n �
   lacking_at : (front rest : List Step) (s : Step) → IsPassed front → rules.nodes ≤ needed (standing_after rules n front) (work_of (standing_after rules n front) s)
       → MayLackNodes rules n (front ++ s ∷ rest) (suc (length front))
   lacking_at front rest s p lacks =
-      let taken = sym (take_before front (s ∷ rest)) in
-      (
+      let taken = sym (take_before front (s ∷ rest)) in (
         room,
         (let both = length-append front (s ∷ rest) in omega (arith, both)),
         subst (AllStepsFit rules.width n) taken p.fits,
