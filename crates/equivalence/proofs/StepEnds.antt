@@ -1,5 +1,5 @@
 -- The steps of a comparison are all accepted, or there is a first that doesn't fit the width or needs too many nodes.
-use Rattle.std.proofs.Common.{◌≡◌, ◌⊎◌, inl, inr, ℕ, zero, suc, ◌+◌, ◌*◌, ◌-◌, ◌<◌, ◌≤◌, List, [], ◌∷◌, ◌++◌, take, drop, length, All, refl, sym, ◌∙◌, ap, subst, arith, append_assoc, append-nil, length-append}
+use Rattle.std.proofs.Common.{◌≡◌, ◌⊎◌, inl, inr, ℕ, suc, ◌+◌, ◌*◌, ◌-◌, ◌≤◌, List, [], ◌∷◌, ◌++◌, take, drop, length, All, refl, sym, ap, subst, arith, append_assoc, append-nil, length-append}
 use Rattle.std.proofs.lemmas.List.Elements.{All-head, All-tail}
 use Rattle.bit_lists.proofs.Variables.{natural_is_order}
 use Rattle.gate_set.specs.declared.gate.Gate.{Gate}
@@ -8,10 +8,9 @@ use Rattle.circuit_model.specs.Working.{FitsWidth}
 use Rattle.circuit_model.proofs.FitLemmas.{fits_or_not}
 use Rattle.circuit_model.proofs.PrefixLemmas.{AtEach-nil, AtEach-more}
 use Rattle.amp_dense.specs.Rules.{Settings}
-use Rattle.comparison.specs.Products.{Step, gate_of, raw_matrix, work_matrix, RawStepFits, AllStepsFit}
+use Rattle.comparison.specs.Products.{Step, raw_matrix, work_matrix, RawStepFits, AllStepsFit}
 use Rattle.comparison.specs.Steps.{steps_of}
-use Rattle.slice_gates.proofs.Moved.{take_front, drop_front}
-use Rattle.unitary_update.specs.Kept.{with_step, work_of, needed, IsStored}
+use Rattle.unitary_update.specs.Kept.{work_of, needed}
 use Rattle.unitary_update.proofs.StepEnds.{accepted_or_refused, fits_begun, fits_next}
 use Rattle.equivalence.specs.Stops.{standing_after, AllStepsStored, IsUnfitAt, NextNeedsNodes, MayLackNodes}
 use Rattle.equivalence.proofs.Enough.{IsStepOn, mixed_on}
