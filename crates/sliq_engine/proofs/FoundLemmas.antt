@@ -11,9 +11,9 @@ use Rattle.probabilities.specs.Possible.{IsNextOutcome, NoOutcomeAfter}
 use Rattle.probabilities.proofs.PossibleLemmas.{impossible_weight, possible_weight}
 use Rattle.sliq_engine.specs.Listing.{has_no_entry}
 use Rattle.sliq_engine.specs.Prob.{has_no_weight}
-use Rattle.sliq_engine.proofs.WalkLemmas.{IsFirst, IsFound}
+use Rattle.sliq_engine.proofs.WalkLemmas.{IsFirst, IsFound, state_of}
 
-nonzero_test : (q : Quad) → q ≢ zero_quad → is_zero q ≡ false
+pub nonzero_test : (q : Quad) → q ≢ zero_quad → is_zero q ≡ false
 nonzero_test q differs = chosen (is_zero q) refl
   where
     chosen : (b : Bool) → is_zero q ≡ b → b ≡ false
@@ -38,6 +38,12 @@ found_state m n w given (Some x) size alike found none = record {
   });
   none = tt;
 }
+
+-- the same of a walk that gives the entry with it
+pub found_walked : (m n : ℕ) (w : Scaled) (given : Option (List Bool)) (next : Option (List Bool × Quad)) → m ≡ n → ForSome given (λ y. length y ≡ n)
+    → IfSome next (λ e. IsNextNonzero m w.entries given e.0) → IfNone next (NoneAfter m w.entries given) → IsFound n (has_no_entry w) given (state_of next)
+found_walked m n w given None size alike found none = found_state m n w given None size alike tt none
+found_walked m n w given (Some e) size alike found none = found_state m n w given (Some e.0) size alike found tt
 
 -- the next outcome that is possible
 pub found_outcome : (measured : List Bool) (w : Scaled) (given next : Option (List Bool)) → ForSome given (λ y. length y ≡ measured_count measured)

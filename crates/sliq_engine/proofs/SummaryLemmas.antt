@@ -1,5 +1,5 @@
 -- The first and the last of the basis states that a walk shows, and the pieces of a summary.
-use Rattle.std.proofs.Common.{◌≡◌, ℕ, ◌+◌, ◌^◌, ◌<◌, refl, sym, ◌∙◌, ap, Bool, true, false, not, List, [], ◌∷◌, ◌++◌, length, get_or, take, drop, arith, append-nil, codes, Option, Some, None}
+use Rattle.std.proofs.Common.{◌≡◌, ℕ, ◌+◌, ◌^◌, ◌<◌, refl, sym, ◌∙◌, ap, Bool, true, false, not, List, [], ◌∷◌, ◌++◌, length, get_or, take, drop, arith, append-nil, codes, Option, Some, None, IfSome, IfNone, subst}
 use Rattle.std.proofs.Math.Seq.{take-length}
 use Rattle.std.specs.Option.{ForSome}
 use Rattle.std.specs.List.{filter}
@@ -12,6 +12,8 @@ use Rattle.amp_printer.specs.declared.counted.Counted.TheVariants.{Qubits, Gates
 use Rattle.amp_printer.specs.Texts.{count_line}
 use Rattle.sliq_engine.specs.Listing.{number_listed, has_no_entry, entry_line}
 use Rattle.sliq_engine.specs.Demo.{first_of, last_of, shown, labelled, summary_output}
+use Rattle.amp_dense.specs.Nonzero.{NoneAfter, IsLastNonzero}
+use Rattle.sliq_engine.proofs.FoundLemmas.{nonzero_test, found_state}
 use Rattle.sliq_engine.proofs.WalkLemmas.{place_after, place_next, place_below, IsShown, IsFound, found_place, found_shown}
 
 one_kept : (p : List Bool → Bool) (x : List Bool) → p x ≡ true → filter p (x ∷ []) ≡ x ∷ []
@@ -85,6 +87,19 @@ module _ (n : ℕ) (w : Scaled) where
       → Some x ≡ last_of (shown_before (place_next n then))
   last_found x next then here shown f =
       sym (ap last_of (sym (found_before (Some x) then f) ∙ shown_one x (shown x here)) ∙ last_one (shown_before (place_of x)) x)
+
+-- the last one of all
+pub last_listed : (m n : ℕ) (w : Scaled) (o : Option (List Bool)) → m ≡ n → IfSome o (IsLastNonzero m w.entries) → IfNone o (NoneAfter m w.entries None) → o ≡ last_of (shown n w)
+last_listed m n w None size found none = none_found n w None (found_state m n w None None size (λ x e. cc) tt none) ∙ ap last_of (shown_all n w)
+last_listed m n w (Some x) size found none =
+    let long : length x ≡ n = found.long ∙ size in
+    let alike : ForSome (Some x) (λ y. length y ≡ n) = λ y e. (let same : x ≡ y = cc in ap length (sym same) ∙ long) in
+    let here : ForSome (Some x) (IsShown n (has_no_entry w)) = λ y e. (let same : x ≡ y = cc in subst (IsShown n (has_no_entry w)) same (record { long = long; shown = nonzero_test (w.entries x) found.nonzero })) in
+    last_found n w x (Some x) None refl here (found_state m n w (Some x) None size alike tt found.last) ∙ ap last_of (shown_all n w)
+
+pub last_long : (m n : ℕ) (w : Scaled) (o : Option (List Bool)) → m ≡ n → IfSome o (IsLastNonzero m w.entries) → ForSome o (λ x. length x ≡ n)
+last_long m n w None size found = λ x e. cc
+last_long m n w (Some x) size found = λ y e. (let same : x ≡ y = cc in ap length (sym same) ∙ found.long ∙ size)
 
 -- the line of a basis state behind its label
 pub labelled_wrote : (label t0 t1 t2 : List ℕ) (w : Scaled) (x : List Bool) (o : Option (List Bool)) → o ≡ Some x → t1 ≡ t0 ++ label

@@ -39,6 +39,11 @@ after_within : (n : ℕ) (given : Option (List Bool)) → ForSome given (λ y. l
 after_within n None same = omega arith
 after_within n (Some y) same = omega (arith, place_below n y (same y refl))
 
+-- the basis state that is given with its entry
+abbrev pub state_of : {Q : Type 0} → Option (List Bool × Q) → Option (List Bool)
+state_of None = None
+state_of (Some e) = Some e.0
+
 -- ---- what is found after a list
 -- a list that has a line
 pub record IsShown (n : ℕ) (left_out : List Bool → Bool) (x : List Bool) : Type 0 where

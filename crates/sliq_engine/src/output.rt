@@ -84,11 +84,12 @@ fn send_nonzero<A: Amplitudes, K: Sink>(
 {
     let k = state.exponent();
     let mut states = 0;
-    let mut next = state.next_nonzero(alloc, None)?;
-    'states: while let Some(x) = next {
-        send_state(out, waiting, &x, state.entry(&x), k)?;
+    let mut walk = state.walk(alloc)?;
+    let mut next = state.advance(&mut walk)?;
+    'states: while let Some((x, q)) = next {
+        send_state(out, waiting, &x, q, k)?;
         states += 1;
-        next = state.next_nonzero(alloc, Some(&x))?;
+        next = state.advance(&mut walk)?;
     }
     Ok(states)
 }

@@ -25,7 +25,7 @@ struct Shown {
 }
 
 /// Writes the summary of a working vector: the number of qubits, of gates, the exponent, the number of basis states whose entry isn't
-/// zero, and the first and the last of them. The basis states are gone through once.
+/// zero, and the first and the last of them. No basis state but these two is visited.
 pub fn send_summary<A: Amplitudes, K: Sink>(
     alloc: Global,
     out: &mut K,
@@ -61,9 +61,8 @@ fn summary<A: Amplitudes>(alloc: Global, qubits: u8, state: &A) -> Result<Vec<u8
     Ok(text)
 }
 
-/// Goes through the basis states whose entries aren't zero.
+/// Counts the basis states whose entries aren't zero, and finds the first and the last of them.
 fn survey<A: Amplitudes>(alloc: Global, qubits: u8, state: &A) -> Result<Shown, OutOfMemory>
-    requires few { qubits ≤ 64 }
     requires size { length (A.standing state.now).input ≡ qubits }
     ensures states { IfOk result (λ s. s.states ≡ number_listed qubits (has_no_entry (vector (A.standing state.now)))) }
     ensures first { IfOk result (λ s. s.first ≡ first_of (shown qubits (vector (A.standing state.now)))) }
@@ -71,15 +70,9 @@ fn survey<A: Amplitudes>(alloc: Global, qubits: u8, state: &A) -> Result<Shown, 
     ensures first_long { IfOk result (λ s. ForSome s.first (λ x. length x ≡ qubits)) }
     ensures last_long { IfOk result (λ s. ForSome s.last (λ x. length x ≡ qubits)) }
 {
+    let states = state.count_nonzero(alloc)?;
     let first = state.next_nonzero(alloc, None)?;
-    let mut states = 0;
-    let mut last = None;
-    let mut next = first;
-    'states: while let Some(x) = next {
-        states += 1;
-        last = Some(x);
-        next = state.next_nonzero(alloc, Some(&x))?;
-    }
+    let last = state.last_nonzero(alloc)?;
     Ok(Shown {
         states,
         first,
