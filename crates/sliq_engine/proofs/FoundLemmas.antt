@@ -45,6 +45,10 @@ pub found_walked : (m n : ℕ) (w : Scaled) (given : Option (List Bool)) (next :
 found_walked m n w given None size alike found none = found_state m n w given None size alike tt none
 found_walked m n w given (Some e) size alike found none = found_state m n w given (Some e.0) size alike found tt
 
+pub some_for : {X : Type 0} (o : Option X) (P : X → Type 0) → IfSome o P → ForSome o P
+some_for None P h = λ x e. cc
+some_for (Some y) P h = λ x e. (let same : y ≡ x = cc in subst P same h)
+
 -- the next outcome that is possible
 pub found_outcome : (measured : List Bool) (w : Scaled) (given next : Option (List Bool)) → ForSome given (λ y. length y ≡ measured_count measured)
     → IfSome next (IsNextOutcome measured w.entries given) → IfNone next (NoOutcomeAfter measured w.entries given)

@@ -86,8 +86,8 @@ fn send_nonzero<A: Amplitudes, K: Sink>(
     let mut states = 0;
     let mut walk = state.walk(alloc)?;
     let mut next = state.advance(&mut walk)?;
-    'states: while let Some((x, q)) = next {
-        send_state(out, waiting, &x, q, k)?;
+    'states: while let Some(found) = next {
+        send_state(out, waiting, &found.0, found.1, k)?;
         states += 1;
         next = state.advance(&mut walk)?;
     }
