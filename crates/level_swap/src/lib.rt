@@ -11,3 +11,6 @@ mod swapping;
 
 pub use needs::{Room, SwapStop};
 pub use swapping::{room, swap, try_swap};
+
+#[cfg(test)]
+mod tests;
