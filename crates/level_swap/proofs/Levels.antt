@@ -13,36 +13,50 @@ use Rattle.diagram_model.proofs.Canonical.{cases_var}
 use Rattle.diagram_model.proofs.Reached.{in_append}
 use Rattle.diagram_model.proofs.Values.{none_some, below-order}
 use Rattle.node_store.specs.Slots.{parts, IsSlotted, AreNodesOf}
-use Rattle.level_swap.specs.Rewriting.{IsTopPair, AreTopPair, IsCrossing, CrossesNot, AreCrossing, IsPartlySwapped, IsUnderway, AreDone, HasVariable, IsRewrittenLevel}
+use Rattle.level_swap.specs.Rewriting.{IsTopPair, AreTopPair, Crosses, CrossesNot, AreCrossing, IsPartlySwapped, IsUnderway, AreDone, HasVariable, IsRewrittenLevel}
 use Rattle.level_swap.proofs.Steps.{has_lacks, upper_lower, lacks_back, var_same}
 use Rattle.level_swap.proofs.Swapped.{splits_at, top_pair, exchanged-pre, IsWhole, whole}
 
--- Filtering by a test that says false only where a number lacks the property keeps each number that has it.
-module _ {F : Type 0} (R : F → ℕ → Bool → F → Type 0) (Is : ℕ → Type 0) (f : F) (test : (x : ℕ) (b : Bool) (g : F) → R f x b g → (b ≡ false → Is x → ⊥) × (g ≡ f)) where
+-- Filtering by a test that tells whether a number has the property leaves exactly the numbers that have it.
+module _ {F : Type 0} (R : F → ℕ → Bool → F → Type 0) (Is : ℕ → Type 0) (f : F) (test : (x : ℕ) (b : Bool) (g : F) → R f x b g → (b ≡ false → Is x → ⊥) × (b ≡ true → Is x) × (g ≡ f)) where
   told_kept : (bs : List Bool) (xs : List ℕ) (q : F) → ReturnsInTurn R f bs xs q → length bs ≡ length xs → (n : ℕ) → is_in xs n ≡ true → Is n → is_in (items_where_true bs xs) n ≡ true
   told_kept [] [] q told len n there is = there
   told_kept [] (x ∷ xs) q told len n there is = absurd (omega arith)
   told_kept (b ∷ bs) [] q told len n there is = absurd (omega arith)
   told_kept (true ∷ bs) (x ∷ xs) q told len n there is =
-      let rest : ReturnsInTurn R f bs xs q = rw (test x true told.0 told.1).1 at told.2 in
+      let rest : ReturnsInTurn R f bs xs q = rw (test x true told.0 told.1).2 at told.2 in
       elim (or_cases (eqb n x) (is_in xs n) there) [
         | inl at ↦ or_left (eqb n x) (is_in (items_where_true bs xs) n) at
         | inr more ↦ or_right (eqb n x) (is_in (items_where_true bs xs) n) (told_kept bs xs q rest (omega arith) n more is)
       ]
   told_kept (false ∷ bs) (x ∷ xs) q told len n there is =
       let one = test x false told.0 told.1 in
-      let rest : ReturnsInTurn R f bs xs q = rw one.1 at told.2 in
+      let rest : ReturnsInTurn R f bs xs q = rw one.2 at told.2 in
       elim (or_cases (eqb n x) (is_in xs n) there) [
         | inl at ↦ absurd (one.0 refl (rw (eqb-true n x at) at is))
         | inr more ↦ told_kept bs xs q rest (omega arith) n more is
       ]
 
+  told_only : (bs : List Bool) (xs : List ℕ) (q : F) → ReturnsInTurn R f bs xs q → length bs ≡ length xs → (n : ℕ) → is_in (items_where_true bs xs) n ≡ true → Is n
+  told_only [] [] q told len n there = absurd (false≢true there)
+  told_only [] (x ∷ xs) q told len n there = absurd (omega arith)
+  told_only (b ∷ bs) [] q told len n there = absurd (omega arith)
+  told_only (true ∷ bs) (x ∷ xs) q told len n there =
+      let one = test x true told.0 told.1 in
+      let rest : ReturnsInTurn R f bs xs q = rw one.2 at told.2 in
+      elim (or_cases (eqb n x) (is_in (items_where_true bs xs) n) there) [
+        | inl at ↦ rw (eqb-true n x at) (one.1 refl)
+        | inr more ↦ told_only bs xs q rest (omega arith) n more
+      ]
+  told_only (false ∷ bs) (x ∷ xs) q told len n there =
+      let rest : ReturnsInTurn R f bs xs q = rw (test x false told.0 told.1).2 at told.2 in
+      told_only bs xs q rest (omega arith) n there
+
   pub filter_keeps : (xs ys : List ℕ) → IsFiltered R f xs ys → (n : ℕ) → is_in xs n ≡ true → Is n → is_in ys n ≡ true
   filter_keeps xs ys k n there is = ap (λ l. is_in l n) k.4 ∙ told_kept k.0 xs k.1 k.3 k.2 n there is
 
--- a node that crosses
-abbrev pub Crosses : List (Option Parts) → ℕ → ℕ → ℕ → Type 0
-Crosses s u v n = (p : Parts) × IsCrossing s u v n p
+  pub filter_only : (xs ys : List ℕ) → IsFiltered R f xs ys → (n : ℕ) → is_in ys n ≡ true → Is n
+  filter_only xs ys k n there = told_only k.0 xs k.1 k.3 k.2 n (ap (λ l. is_in l n) (sym k.4) ∙ there)
 
 pub crosses_or_not : (s : List (Option Parts)) (u v n : ℕ) → CrossesNot s u v n → Crosses s u v n → ⊥
 crosses_or_not s u v n not_one one =
@@ -53,9 +67,10 @@ crosses_or_not s u v n not_one one =
     ]
 
 -- the nodes of u without those that do not cross
-pub crossing_among : (d : Diagram) (u v : ℕ) (ms ns : List ℕ) → AreNodesOf d u ms → ((n : ℕ) → is_in ms n ≡ true → Crosses d.slots u v n → is_in ns n ≡ true) → length ns ≤ length ms → AreCrossing d u v ns
-crossing_among d u v ms ns all keeps len = record {
+pub crossing_among : (d : Diagram) (u v : ℕ) (ms ns : List ℕ) → AreNodesOf d u ms → ((n : ℕ) → is_in ms n ≡ true → Crosses d.slots u v n → is_in ns n ≡ true) → ((n : ℕ) → is_in ns n ≡ true → Crosses d.slots u v n) → length ns ≤ length ms → AreCrossing d u v ns
+crossing_among d u v ms ns all keeps only len = record {
   all = λ n p is. keeps n (all.all n (p, is.is, is.var_is)) (p, is);
+  each = only;
   few = omega (arith, all.count);
 }
 

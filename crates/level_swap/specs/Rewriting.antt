@@ -63,13 +63,18 @@ pub record IsCrossing (t : List (Option Parts)) (u v n : ℕ) (p : Parts) : Type
   pub var_is : p.var ≡ u
   pub crosses : HasVariable t v p.low ⊎ HasVariable t v p.high
 
+-- the node n has the variable u, and a child of v
+abbrev pub Crosses : List (Option Parts) → ℕ → ℕ → ℕ → Type 0
+Crosses t u v n = (p : Parts) × IsCrossing t u v n p
+
 -- where n has the variable u, no child has the variable v
 abbrev pub CrossesNot : List (Option Parts) → ℕ → ℕ → ℕ → Type 0
 CrossesNot t u v n = (p : Parts) → parts_of t n ≡ Some p → p.var ≡ u → LacksVariable t v p.low × LacksVariable t v p.high
 
--- the list has all nodes of u with a child of v, and no more nodes than u has
+-- the list has the nodes of u with a child of v, no others, and no more nodes than u has
 pub record AreCrossing (d : Diagram) (u v : ℕ) (ns : List ℕ) : Type 0 where
   pub all : (n : ℕ) (p : Parts) → IsCrossing d.slots u v n p → is_in ns n ≡ true
+  pub each : (n : ℕ) → is_in ns n ≡ true → Crosses d.slots u v n
   pub few : length ns ≤ nodes_of d u
 
 -- the slots t are on the way of a swap of u and v

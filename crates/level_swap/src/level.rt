@@ -1,9 +1,9 @@
 //! All nodes of the upper variable that have a child of the lower one.
-ghost use Rattle.std.specs.Prelude.{◌≡◌, ℕ, ◌+◌, ◌*◌, ◌<◌, ◌≤◌, false, length, slice_index, IfOk, OnOk, OnErr};
+ghost use Rattle.std.specs.Prelude.{◌≡◌, ℕ, ◌+◌, ◌*◌, ◌<◌, ◌≤◌, true, false, length, slice_index, IfOk, OnOk, OnErr};
 ghost use Rattle.bit_lists.specs.Orders.{exchanged};
 ghost use Rattle.diagram_model.specs.Stores.{held, IsSound, KeepsFunctions};
 ghost use Rattle.node_store.specs.Slots.{IsSlotted, nodes_of, spare_of};
-ghost use Rattle.level_swap.specs.Rewriting.{AreCrossing, AreTopPair, CrossesNot, IsRewrittenLevel};
+ghost use Rattle.level_swap.specs.Rewriting.{AreCrossing, AreTopPair, Crosses, CrossesNot, IsRewrittenLevel};
 ghost use Rattle.level_swap.specs.Swaps.{level_nodes};
 
 use crate::nodes::{cross, crossing};
@@ -12,7 +12,8 @@ use node_store::{Node, Slots};
 
 /// Whether a node has the upper variable and a child of the lower one.
 fn is_crossing(slots: &Slots, upper: u8, lower: u8, n: u32) -> bool
-    ensures { result ≡ false → CrossesNot slots.now.diagram.slots upper lower n }
+    ensures yes { result ≡ true → Crosses slots.now.diagram.slots upper lower n }
+    ensures no { result ≡ false → CrossesNot slots.now.diagram.slots upper lower n }
 {
     crossing(slots, upper, lower, Node(n)).is_some()
 }

@@ -1,5 +1,6 @@
 use Rattle.std.proofs.Common.{rules, arith}
-use Rattle.level_swap.proofs.Levels.{Crosses, filter_keeps, crosses_or_not, crossing_among}
+use Rattle.level_swap.specs.Rewriting.{Crosses}
+use Rattle.level_swap.proofs.Levels.{filter_keeps, filter_only, crosses_or_not, crossing_among}
 use Rattle.level_swap.proofs.level.crossing_nodes.Goals as goal
 
 pub returns : goal.returns
@@ -8,5 +9,6 @@ returns c =
     let u = c.args.upper in
     let v = c.args.lower in
     crossing_among c.args.slots.now.diagram u v _ _ c.in_ok-numbers.ensures
-    (λ n there one. filter_keeps _ (Crosses s u v) _ (λ x b f k. search (rules, crosses_or_not)) _ _ c.retain.ensures.filtered n there one)
+    (filter_keeps _ (Crosses s u v) _ (λ x b f k. search (rules, crosses_or_not)) _ _ c.retain.ensures.filtered)
+    (filter_only _ (Crosses s u v) _ (λ x b f k. search (rules, crosses_or_not)) _ _ c.retain.ensures.filtered)
     (omega (arith, c.retain.ensures.bound))
