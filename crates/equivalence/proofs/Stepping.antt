@@ -1,5 +1,5 @@
 -- The matrix after the steps so far, one more step, and all of them.
-use Rattle.std.proofs.Common.{◌≡◌, ℕ, suc, ◌+◌, ◌*◌, ◌<◌, ◌≤◌, sym, ◌∙◌, ap, subst, List, [], ◌∷◌, ◌++◌, All, length, take, drop, arith}
+use Rattle.std.proofs.Common.{◌≡◌, ℕ, suc, ◌+◌, ◌*◌, ◌-◌, ◌<◌, ◌≤◌, sym, ◌∙◌, ap, subst, List, [], ◌∷◌, ◌++◌, All, length, take, drop, arith}
 use Rattle.std.proofs.Math.Path.{ap₂}
 use Rattle.std.proofs.lemmas.List.{length-take-le}
 use Rattle.std.specs.List.{range_with_len}
@@ -14,7 +14,7 @@ use Rattle.amp_dense.specs.declared.stop.Stop.TheVariants.{Width, Nodes, OutOfMe
 use Rattle.amp_dense.specs.Rules.{Settings}
 use Rattle.amp_printer.specs.declared.verdict.Verdict.{Verdict}
 use Rattle.comparison.specs.Scalars.{comparison, compared}
-use Rattle.comparison.specs.Products.{Step, work_matrix, RawStepFits, AllStepsFit}
+use Rattle.comparison.specs.Products.{Step, work_matrix, RawStepFits, AllStepsFit, IsFirstUnfitStep}
 use Rattle.comparison.specs.Steps.{steps_of}
 use Rattle.comparison.specs.Verdicts.{IsVerdict}
 use Rattle.comparison.proofs.TurnLemmas.{take-next}
@@ -24,63 +24,80 @@ use Rattle.comparison.proofs.Working.{work_matrix-value}
 use Rattle.slice_quad.specs.declared.quad.SliceQuad.{SliceQuad}
 use Rattle.slice_quad.specs.Walks.{entries_in}
 use Rattle.diagram_ops.specs.Diagrams.{Shared}
-use Rattle.unitary_update.specs.Kept.{State, Standing, begun, Accepts, ShowsMatrix, StartStopMeans, work_of, needed, StopMeans as StepStopMeans}
+use Rattle.unitary_update.specs.Kept.{State, Standing, begun, Accepts, ShowsMatrix, StartStopMeans, with_step, work_of, needed, IsStored, StopMeans as StepStopMeans}
 use Rattle.equivalence.specs.Matrices.{matrix_in}
-use Rattle.equivalence.specs.Stops.{standing_after, NextNeedsNodes, MayLackNodes, StopMeans}
+use Rattle.equivalence.specs.Stops.{standing_after, AllStepsStored, NextNeedsNodes, MayLackNodes, StopMeans}
 
--- on n qubits, the matrix stands by the first t steps, all of which fit
+-- on n qubits, the matrix stands by the first t steps, after each of which it fits and is stored
 pub record IsAfter (n : ℕ) (rules : Settings) (steps : List Step) (t : ℕ) (s : Standing) : Type 0 where
   pub qubits : s.qubits ≡ n
   pub rules_are : s.rules ≡ rules
   pub done : s.steps ≡ take t steps
   pub order : s.order ≡ range_with_len 0 (2 * n)
   pub fits : AllStepsFit rules.width n (take t steps)
+  pub stored : AllStepsStored rules n (take t steps)
   pub room : 3 * n ≤ rules.nodes
 
 same_standing : (m p : Standing) → m.qubits ≡ p.qubits → m.rules ≡ p.rules → m.steps ≡ p.steps → m.order ≡ p.order → m ≡ p
 same_standing m p qubits rules steps order = λ i. record { qubits = qubits i; rules = rules i; steps = steps i; order = order i }
 
+-- the matrix is stored after a step behind these
+abbrev pub StoresNext : Settings → ℕ → List Step → Step → Type 0
+StoresNext rules n done next = IsStored (with_step (standing_after rules n done) next)
+
 module _ (n : ℕ) (rules : Settings) (steps : List Step) (t : ℕ) (s : Step) (rest : List Step) (next : drop t steps ≡ s ∷ rest) (m : Standing) (now : IsAfter n rules steps t m) where
   taken : take (t + 1) steps ≡ take t steps ++ s ∷ []
   taken = (take-next steps t s rest next).0
+
+  there : m ≡ standing_after rules n (take t steps)
+  there = same_standing m (standing_after rules n (take t steps)) now.qubits now.rules_are now.done now.order
+
+  -- as many steps are done
+  count : t ≤ length steps → length m.steps ≡ t
+  count le = ap length now.done ∙ length-take-le t steps le
 
   pub one_after : (new : Standing) → Accepts m s new → IsAfter n rules steps (t + 1) new
   one_after new a =
       let fits : RawStepFits rules.width n (take t steps) s =
       subst (λ l. RawStepFits rules.width n l s) now.done (subst (λ k. RawStepFits rules.width k m.steps s) now.qubits (subst (λ (r : Settings). RawStepFits r.width m.qubits m.steps s) now.rules_are a.fits)) in
+      let stored : StoresNext rules n (take t steps) s = subst (λ (p : Standing). IsStored (with_step p s)) there a.stored in
       record {
         qubits = ap (λ (r : Standing). r.qubits) a.same ∙ now.qubits;
         rules_are = ap (λ (r : Standing). r.rules) a.same ∙ now.rules_are;
         done = ap (λ (r : Standing). r.steps) a.same ∙ ap (λ l. l ++ s ∷ []) now.done ∙ sym taken;
         order = ap (λ (r : Standing). r.order) a.same ∙ now.order;
         fits = subst (AllStepsFit rules.width n) (sym taken) (AtEach-more (RawStepFits rules.width n) (take t steps) s now.fits fits);
+        stored = subst (AllStepsStored rules n) (sym taken) (AtEach-more (StoresNext rules n) (take t steps) s now.stored stored);
         room = now.room;
       }
 
   next_needs : m.rules.nodes ≤ needed m (work_of m s) → NextNeedsNodes rules n (take t steps) (drop t steps)
   next_needs h =
-      let there : m ≡ standing_after rules n (take t steps) = same_standing m (standing_after rules n (take t steps)) now.qubits now.rules_are now.done now.order in
       let here : NextNeedsNodes rules n (take t steps) (s ∷ rest) = subst (λ (p : Standing). p.rules.nodes ≤ needed p (work_of p s)) there h in
       subst (NextNeedsNodes rules n (take t steps)) (sym next) here
 
+  -- the matrix doesn't fit after the next step
+  unfit : (number : ℕ) → StepStopMeans m s (Width number) → IsFirstUnfitStep rules.width n steps number
+  unfit number h = record {
+    front = take t steps;
+    element = s;
+    rest = rest;
+    split = (take-next steps t s rest next).1.1;
+    count = h.0 ∙ ap (λ l. length l + 1) now.done;
+    before = now.fits;
+    fails = λ fits. h.1
+        (subst (λ (r : Settings). RawStepFits r.width m.qubits m.steps s) (sym now.rules_are) (subst (λ k. RawStepFits rules.width k m.steps s) (sym now.qubits) (subst (λ l. RawStepFits rules.width n l s) (sym now.done) fits)));
+  }
+
   pub stops_after : (stop : Stop) → t < length steps → StepStopMeans m s stop → StopMeans rules n steps stop
-  stops_after (Width number) lt h = (
-    now.room,
-    record {
-      front = take t steps;
-      element = s;
-      rest = rest;
-      split = (take-next steps t s rest next).1.1;
-      count = h.0 ∙ ap (λ l. length l + 1) now.done;
-      before = now.fits;
-      fails = λ fits. h.1
-          (subst (λ (r : Settings). RawStepFits r.width m.qubits m.steps s) (sym now.rules_are) (subst (λ k. RawStepFits rules.width k m.steps s) (sym now.qubits) (subst (λ l. RawStepFits rules.width n l s) (sym now.done) fits)));
-    },
-  )
+  stops_after (Width number) lt h =
+      let long = count (omega (arith, lt)) in
+      let before : number - 1 ≡ t = let e = h.0 in omega (arith, long, e) in
+      (now.room, (unfit number h, subst (λ k. AllStepsStored rules n (take k steps)) (sym before) now.stored))
   stops_after (Nodes number order held) lt h =
-      let long : length m.steps ≡ t = ap length now.done ∙ length-take-le t steps (omega (arith, lt)) in
+      let long = count (omega (arith, lt)) in
       let at : number ≡ suc t = h.0 ∙ omega (arith, long) in
-      (h.1 ∙ now.order, h.2 ∙ ap (λ (r : Settings). r.nodes) now.rules_are, subst (MayLackNodes rules n steps) (sym at) (now.room, lt, now.fits, next_needs h.3))
+      (h.1 ∙ now.order, h.2 ∙ ap (λ (r : Settings). r.nodes) now.rules_are, subst (MayLackNodes rules n steps) (sym at) (now.room, lt, now.fits, now.stored, next_needs h.3))
   stops_after OutOfMemory lt h = tt
 
 pub starts : (n : ℕ) (rules : Settings) (steps : List Step) (stop : Stop) → StartStopMeans n rules stop → StopMeans rules n steps stop
@@ -111,6 +128,7 @@ begins n rules steps s e room = record {
   done = ap (λ (r : Standing). r.steps) e;
   order = ap (λ (r : Standing). r.order) e;
   fits = AtEach-nil (RawStepFits rules.width n);
+  stored = AtEach-nil (StoresNext rules n);
   room = room;
 }
 

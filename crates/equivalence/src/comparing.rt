@@ -8,7 +8,7 @@ ghost use Rattle.comparison.specs.Sides.{step_of};
 ghost use Rattle.comparison.specs.Steps.{steps_of};
 ghost use Rattle.comparison.specs.Verdicts.{IsVerdict};
 ghost use Rattle.unitary_update.specs.Kept.{standing_of, Accepts, StopMeans as StepStopMeans};
-ghost use Rattle.equivalence.specs.Stops.{StopMeans};
+ghost use Rattle.equivalence.specs.Stops.{AllStepsStored, StopMeans};
 
 use crate::verdict::scalar_of;
 use amp_dense::{Rules, Stop};
@@ -22,12 +22,14 @@ use unitary_update::SlicedMatrix;
 ///
 /// A stop numbers the steps of the comparison from 1, left and right ones together. Where three nodes a qubit are more than the rules
 /// allow, it is `Nodes` with 0; at a step it is `Nodes` only where the step's work functions alone need at least as many as the rules
-/// allow. What the steps cost depends on how many functions the bits of the matrix share.
+/// allow. A step is passed only where the functions that the matrix is stored by after it need no more. What the steps cost depends on how
+/// many functions the bits of the matrix share.
 pub fn compare(alloc: Global, u: &Circuit, v: &Circuit, rules: &Rules) -> Result<Verdict, Stop>
     requires same { u.now.qubits ≡ v.now.qubits }
     requires small { u.now.qubits ≤ 64 }
     ensures verdict { IfOk result (IsVerdict u.now.qubits (compared u.now.gates v.now.gates) (exponent (comparison u.now.gates v.now.gates))) }
     ensures fits { OnOk result (AllStepsFit rules.now.width u.now.qubits (steps_of u.now.gates v.now.gates)) }
+    ensures stored { OnOk result (AllStepsStored rules.now u.now.qubits (steps_of u.now.gates v.now.gates)) }
     ensures room { OnOk result (3 * u.now.qubits ≤ rules.now.nodes) }
     ensures stop { IfErr result (StopMeans rules.now u.now.qubits (steps_of u.now.gates v.now.gates)) }
 {
@@ -56,6 +58,7 @@ fn multiplied(
     ensures qubits { IfOk result (λ m. m.qubits ≡ qubits) }
     ensures steps { IfOk result (λ m. m.steps ≡ steps_of us.now vs.now) }
     ensures fits { OnOk result (AllStepsFit rules.now.width qubits (steps_of us.now vs.now)) }
+    ensures stored { OnOk result (AllStepsStored rules.now qubits (steps_of us.now vs.now)) }
     ensures room { OnOk result (3 * qubits ≤ rules.now.nodes) }
     ensures stop { IfErr result (StopMeans rules.now qubits (steps_of us.now vs.now)) }
 {

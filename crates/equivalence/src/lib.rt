@@ -4,11 +4,13 @@
 mod asking;
 mod comparing;
 mod first;
+mod laws;
 mod positions;
 mod verdict;
 
 pub use amp_printer::Verdict;
 pub use comparing::compare;
+pub use laws::enough_nodes;
 pub use verdict::scalar_of;
 
 #[cfg(test)]

@@ -1,1 +1,3 @@
 pub mod Private
+pub mod Paths
+pub mod Counts

@@ -22,5 +22,5 @@ one_end (task.Demo qubits gates seed) rules texts = one_demonstrates rules qubit
 pub some_end : (it : Task) (rules : Settings) (texts : List (List ℕ)) → 2 ≤ rules.width → HasSomeEnd IsNoFault (CarriesOut it rules texts)
 some_end (task.Sim bits) rules texts wide = some_sims bits rules (get_or texts 0 []) wide
 some_end task.Prob rules texts wide = some_weighs rules (get_or texts 0 []) wide
-some_end task.Eq rules texts wide = some_compares rules (get_or texts 0 []) (get_or texts 1 [])
+some_end task.Eq rules texts wide = some_compares rules (get_or texts 0 []) (get_or texts 1 []) wide
 some_end (task.Demo qubits gates seed) rules texts wide = some_demonstrates rules qubits gates seed wide

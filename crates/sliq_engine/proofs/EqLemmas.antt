@@ -14,15 +14,16 @@ use Rattle.amp_printer.specs.declared.verdict.Verdict.{Verdict}
 use Rattle.amp_printer.specs.declared.verdict.Verdict.TheVariants as verdicts
 use Rattle.amp_printer.specs.Verdicts.{verdict_text}
 use Rattle.comparison.specs.Scalars.{AreSame, comparison, compared}
-use Rattle.comparison.specs.Products.{Step, RawStepFits, AllStepsFit, IsFirstUnfitStep}
+use Rattle.comparison.specs.Products.{Step, RawStepFits, AllStepsFit}
 use Rattle.comparison.specs.Steps.{steps_of}
 use Rattle.comparison.specs.Verdicts.{IsVerdict}
-use Rattle.comparison.proofs.Fits.{steps_fit_or_first_unfit}
 use Rattle.comparison.proofs.Verdicts.{one_verdict, some_verdict, scalar_told}
-use Rattle.equivalence.specs.Stops.{StopMeans}
+use Rattle.equivalence.specs.Stops.{AllStepsStored, StopMeans}
+use Rattle.equivalence.proofs.StepEnds.{Outcome, outcome}
 use Rattle.outside.specs.Bytes.{Added, AddedSome}
 use Rattle.phases.specs.Phases.{HasOneEnd, HasSomeEnd, ◌>>=◌}
 use Rattle.phases.proofs.Ends.{one_after, one_stops_where, one_told, some_after, some_stops_where}
+use Rattle.qasm_reader.proofs.Sound.{read_is_circuit}
 use Rattle.sliq_engine.specs.declared.output.SendStop.{SendStop}
 use Rattle.sliq_engine.specs.declared.output.SendStop.TheVariants as sends
 use Rattle.sliq_engine.specs.declared.cause.Cause.{Cause}
@@ -32,18 +33,19 @@ use Rattle.sliq_engine.specs.Eq.{Begins, MultipliesBy, Multiplies, told_by, Says
 use Rattle.sliq_engine.specs.Ending.{MayEnd, MayStopBy}
 use Rattle.sliq_engine.specs.Private.{cause_of_sending}
 use Rattle.sliq_engine.specs.Laws.{IsNoFault, IsSure}
+use Rattle.sliq_engine.proofs.SomeEnds.{some_behind, same_number}
 use Rattle.sliq_engine.proofs.Endings.{ends_first, ends_after}
 use Rattle.sliq_engine.proofs.StepLemmas.{one_reads, some_reads, one_same, some_same}
 
 -- ---- one end
 one_multiplies_by : (rules : Settings) (n : ℕ) (steps : List Step) → HasOneEnd (λ stop. IsSure (cause_of stop)) (MultipliesBy rules n steps)
 one_multiplies_by rules n steps (Ok a) (Ok b) p q s t = refl
-one_multiplies_by rules n steps (Ok a) (Err (stops.Width j)) p q s t = absurd (first_failing-apart (RawStepFits rules.width n) steps j q p)
+one_multiplies_by rules n steps (Ok a) (Err (stops.Width j)) p q s t = absurd (first_failing-apart (RawStepFits rules.width n) steps j q.0 p.0)
 one_multiplies_by rules n steps (Ok a) (Err (stops.Nodes j order held)) p q s t = absurd t
 one_multiplies_by rules n steps (Ok a) (Err stops.OutOfMemory) p q s t = absurd q
-one_multiplies_by rules n steps (Err (stops.Width i)) (Ok b) p q s t = absurd (first_failing-apart (RawStepFits rules.width n) steps i p q)
+one_multiplies_by rules n steps (Err (stops.Width i)) (Ok b) p q s t = absurd (first_failing-apart (RawStepFits rules.width n) steps i p.0 q.0)
 one_multiplies_by rules n steps (Err (stops.Width i)) (Err (stops.Width j)) p q s t =
-    ap (λ (k : ℕ). let w : Stop = stops.Width k in let e : Result (Unit {0}) Stop = Err w in e) (one_first_failing (RawStepFits rules.width n) steps i j p q)
+    ap (λ (k : ℕ). let w : Stop = stops.Width k in let e : Result (Unit {0}) Stop = Err w in e) (one_first_failing (RawStepFits rules.width n) steps i j p.0 q.0)
 one_multiplies_by rules n steps (Err (stops.Width i)) (Err (stops.Nodes j order held)) p q s t = absurd t
 one_multiplies_by rules n steps (Err (stops.Width i)) (Err stops.OutOfMemory) p q s t = absurd q
 one_multiplies_by rules n steps (Err (stops.Nodes i order held)) b p q s t = absurd s
@@ -75,26 +77,41 @@ some_begins rules u =
     some_stops_where IsNoFault (rules.nodes < 3 * u.qubits) (Nodes 0 (range_with_len 0 (2 * u.qubits)) rules.nodes) tt
     (elim (cases_lt rules.nodes (3 * u.qubits)) [ inl few ↦ inl few | inr room ↦ inr (λ few. omega (arith, room, few)) ])
 
-some_multiplies : (rules : Settings) (u v : Circuit) → HasSomeEnd IsNoFault (Multiplies rules u v)
-some_multiplies rules u v = by (steps_fit_or_first_unfit rules.width u.qubits (steps_of u.gates v.gates))
+pub some_multiplies : (rules : Settings) (u v : Circuit) → 2 ≤ rules.width → 3 * u.qubits ≤ rules.nodes → All (IsOn u.qubits) u.gates → All (IsOn u.qubits) v.gates → HasSomeEnd IsNoFault (Multiplies rules u v)
+some_multiplies rules u v wide room on_u on_v = by (outcome rules u.qubits wide room u.gates v.gates on_u on_v)
   where
-    by : AllStepsFit rules.width u.qubits (steps_of u.gates v.gates) ⊎ ((number : ℕ) × IsFirstUnfitStep rules.width u.qubits (steps_of u.gates v.gates) number)
-        → HasSomeEnd IsNoFault (Multiplies rules u v)
+    by : Outcome rules u.qubits (steps_of u.gates v.gates) → HasSomeEnd IsNoFault (Multiplies rules u v)
     by (inl all) = (Ok tt, all, tt)
-    by (inr first) = (Err (Width first.0), (stops.Width first.0, first.1, refl), tt)
+    by (inr (inl unfit)) = (Err (Width unfit.0), (stops.Width unfit.0, unfit.1, refl), tt)
+    by (inr (inr lacks)) =
+        let order = range_with_len 0 (2 * u.qubits) in
+        (Err (Nodes (suc lacks.0) order rules.nodes), (stops.Nodes (suc lacks.0) order rules.nodes, (refl, refl, lacks.1), refl), tt)
 
 some_says : (u v : Circuit) → HasSomeEnd IsNoFault (Says u v)
 some_says u v =
     let s = some_verdict u.qubits (compared u.gates v.gates) (exponent (comparison u.gates v.gates)) in
     (Ok (record { cause = told_by s.0; bytes = verdict_text s.0 }), (s.0, s.1, refl), tt)
 
-pub some_compares : (rules : Settings) (one two : List ℕ) → HasSomeEnd IsNoFault (Compares rules one two)
-some_compares rules one two =
-    some_after IsNoFault _ _ (some_reads 1 one)
-    (λ u. some_after IsNoFault _ _ (some_reads 2 two)
-    (λ v. some_after IsNoFault _ _ (some_same u.qubits v.qubits)
-    (λ _. some_after IsNoFault _ _ (some_begins rules u)
-    (λ _. some_after IsNoFault _ _ (some_multiplies rules u v) (λ _. some_says u v)))))
+-- what was read is on as many qubits
+module _ (one two : List ℕ) (u v : Circuit) (first : Reads 1 one (Ok u)) (second : Reads 2 two (Ok v)) (same : u.qubits ≡ v.qubits) where
+  pub read_first : All (IsOn u.qubits) u.gates
+  read_first = (read_is_circuit one 64 u (omega arith) first).within
+
+  pub read_second : All (IsOn u.qubits) v.gates
+  read_second = subst (λ n. All (IsOn n) v.gates) (sym same) (read_is_circuit two 64 v (omega arith) second).within
+
+pub some_compares : (rules : Settings) (one two : List ℕ) → 2 ≤ rules.width → HasSomeEnd IsNoFault (Compares rules one two)
+some_compares rules one two wide =
+    some_behind IsNoFault (Reads 1 one) _ (some_reads 1 one)
+    (λ u first. some_behind IsNoFault (Reads 2 two) _ (some_reads 2 two)
+    (λ v second. some_behind IsNoFault (SameQubits u.qubits v.qubits) _ (some_same u.qubits v.qubits)
+    (λ _ alike. some_behind IsNoFault (Begins rules u) _ (some_begins rules u)
+    (λ _ room. some_after IsNoFault _ _ (multiplied u v first second (same_number u.qubits v.qubits alike) room) (λ _. some_says u v)))))
+  where
+    multiplied : (u v : Circuit) → Reads 1 one (Ok u) → Reads 2 two (Ok v) → u.qubits ≡ v.qubits → ¬ (rules.nodes < 3 * u.qubits) → HasSomeEnd IsNoFault (Multiplies rules u v)
+    multiplied u v first second same room =
+        some_multiplies rules u v wide (elim (cases_lt rules.nodes (3 * u.qubits)) [ inl few ↦ absurd (room few) | inr enough ↦ enough ])
+        (read_first one two u v first second same) (read_second one two u v first second same)
 
 -- ---- how it ends
 module _ (rules : Settings) (one two : List ℕ) where
@@ -142,7 +159,7 @@ module _ (rules : Settings) (one two : List ℕ) where
             (ends_first (Multiplies rules u v) _ (Nodes (suc before) order held) out (stops.Nodes (suc before) order held, h, refl))
         eq_halts stops.OutOfMemory out h = inl refl
 
-        module _ (room : 3 * u.qubits ≤ rules.nodes) (fits : AllStepsFit rules.width u.qubits (steps_of u.gates v.gates)) (verdict : Verdict)
+        module _ (room : 3 * u.qubits ≤ rules.nodes) (fits : AllStepsFit rules.width u.qubits (steps_of u.gates v.gates) × AllStepsStored rules u.qubits (steps_of u.gates v.gates)) (verdict : Verdict)
             (is : IsVerdict u.qubits (compared u.gates v.gates) (exponent (comparison u.gates v.gates)) verdict) where
           ended : (cause : Cause) (old new : Option (List ℕ)) → MayEnd (Says u v) cause old new → MayEnd (Compares rules one two) cause old new
           ended cause old new h = begun room cause old new (ends_after (Multiplies rules u v) _ tt cause old new fits h)

@@ -17,3 +17,5 @@ mod RunLemmas
 mod OneRun
 mod SummaryLemmas
 mod DemoLemmas
+mod EnoughNodes
+mod Completeness

@@ -10,10 +10,10 @@ use Rattle.amp_printer.specs.declared.verdict.Verdict.{Verdict}
 use Rattle.amp_printer.specs.declared.verdict.Verdict.TheVariants as verdicts
 use Rattle.amp_printer.specs.Verdicts.{verdict_text}
 use Rattle.comparison.specs.Scalars.{comparison, compared}
-use Rattle.comparison.specs.Products.{Step, AllStepsFit, IsFirstUnfitStep}
+use Rattle.comparison.specs.Products.{Step, AllStepsFit}
 use Rattle.comparison.specs.Steps.{steps_of}
 use Rattle.comparison.specs.Verdicts.{IsVerdict}
-use Rattle.equivalence.specs.Stops.{StopMeans}
+use Rattle.equivalence.specs.Stops.{AllStepsStored, IsUnfitAt, StopMeans}
 use Rattle.phases.specs.Phases.{Phase, ◌>>=◌, ◌>>◌, StopsWhere, Told}
 use Rattle.sliq_engine.specs.declared.cause.Cause.{Cause}
 use Rattle.sliq_engine.specs.declared.cause.Cause.TheVariants.{Done, Differs, Nodes}
@@ -23,10 +23,11 @@ use Rattle.sliq_engine.specs.Steps.{Reads, SameQubits, cause_of, Output, Writes}
 abbrev pub Begins : Settings → Circuit → Phase (Unit {0}) Cause
 Begins rules u = StopsWhere (rules.nodes < 3 * u.qubits) (Nodes 0 (range_with_len 0 (2 * u.qubits)) rules.nodes)
 
--- the identity is multiplied by steps: they fit the width; or it stops at the first after which the matrix doesn't, or by a want of nodes
+-- the identity is multiplied by steps: after each of them the matrix fits the width and is stored; or it stops at the first after which the
+-- matrix doesn't fit, or by a want of nodes
 abbrev pub MultipliesBy : Settings → ℕ → List Step → Phase (Unit {0}) Stop
-MultipliesBy rules n steps (Ok _) = AllStepsFit rules.width n steps
-MultipliesBy rules n steps (Err (stops.Width number)) = IsFirstUnfitStep rules.width n steps number
+MultipliesBy rules n steps (Ok _) = AllStepsFit rules.width n steps × AllStepsStored rules n steps
+MultipliesBy rules n steps (Err (stops.Width number)) = IsUnfitAt rules n steps number
 MultipliesBy rules n steps (Err (stops.Nodes number order held)) = StopMeans rules n steps (stops.Nodes number order held)
 MultipliesBy rules n steps (Err stops.OutOfMemory) = ⊥
 

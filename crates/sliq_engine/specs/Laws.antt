@@ -1,11 +1,12 @@
 -- Words of the laws.
-use Rattle.std.specs.Prelude.{◌≡◌, Bool, List}
+use Rattle.std.specs.Prelude.{◌≡◌, ◌↔◌, ℕ, Bool, List, Result, Ok, Err}
 use Rattle.ring_omega.specs.Lowest.{lowest_form}
 use Rattle.gate_set.specs.Circuits.{Circuit}
 use Rattle.circuit_model.specs.Product.{exponent}
 use Rattle.amp_printer.specs.declared.verdict.Verdict.TheVariants as verdicts
 use Rattle.amp_printer.specs.Verdicts.{verdict_text}
 use Rattle.comparison.specs.Scalars.{comparison, compared, corner, IsFirstDiffering}
+use Rattle.phases.specs.Phases.{Phase}
 use Rattle.sliq_engine.specs.declared.cause.Cause.{Cause}
 use Rattle.sliq_engine.specs.declared.cause.Cause.TheVariants.{ReadFault, Nodes}
 use Rattle.sliq_engine.specs.Steps.{Output}
@@ -19,6 +20,14 @@ IsNoFault _ = Unit {0}
 abbrev pub IsSure : Cause → Type 0
 IsSure (Nodes step order held) = ⊥
 IsSure cause = IsNoFault cause
+
+-- no end of this is a want of nodes
+abbrev pub NeverLacksNodes : Phase Output Cause → Type 0
+NeverLacksNodes phase = (step : ℕ) (order : List ℕ) (held : ℕ) → ¬ phase (Err (Nodes step order held))
+
+-- it comes to this output, and to nothing else
+abbrev pub ComesTo : Phase Output Cause → Output → Type 0
+ComesTo phase output = (end : Result Output Cause) → phase end ↔ (end ≡ Ok output)
 
 -- the output tells the first position at which U·V† isn't its corner times the identity, the entry there and the corner in lowest terms
 pub record TellsFirst (u v : Circuit) (output : Output) : Type 0 where

@@ -18,7 +18,10 @@ mod taking;
 mod top;
 
 pub use cause::{Cause, Ended};
-pub use laws::{demo_is_never_refused, eq_exactly, one_end, one_run, small_outputs, some_end};
+pub use laws::{
+    complete, demo_is_never_refused, enough_nodes, eq_exactly, one_end, one_run, small_outputs,
+    some_end,
+};
 pub use top::{end, run};
 
 #[cfg(test)]

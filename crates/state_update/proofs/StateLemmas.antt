@@ -1,10 +1,13 @@
 -- What keeps a state, at its start and from gate to gate, and what is read of it.
-use Rattle.std.proofs.Common.{◌≡◌, ℕ, ◌+◌, ◌<◌, ◌≤◌, Bool, true, false, cond, List, [], ◌∷◌, ◌++◌, length, Option, None, Some, Result, Ok, Err, refl, sym, ◌∙◌, ap, subst, arith, length-append}
+use Rattle.std.proofs.Common.{◌≡◌, ℕ, suc, ◌+◌, ◌<◌, ◌≤◌, Bool, true, false, not, cond, List, [], ◌∷◌, ◌++◌, length, get_or, fold, Option, None, Some, Result, Ok, Err, refl, sym, ◌∙◌, ap, subst, arith, length-append}
 use Rattle.std.specs.List.{range_with_len}
 use Rattle.std.specs.Prelude.{IfOk, IfSome, IfNone}
 use Rattle.std.proofs.lemmas.List.FromFn.{length-range_with_len}
 use Rattle.std.proofs.lemmas.List.Elements.{All-nil, All-cons, All-append}
-use Rattle.ring_omega.specs.Ring.{zero_quad, one_quad}
+use Rattle.ring_omega.specs.declared.quad.Quad.{Quad}
+use Rattle.ring_omega.specs.Ring.{zero_quad, one_quad, is_zero}
+use Rattle.bit_lists.specs.Lists.{all_lists}
+use Rattle.bit_lists.proofs.Places.{listed, length-all_lists}
 use Rattle.gate_set.specs.declared.gate.Gate.{Gate}
 use Rattle.gate_set.specs.Shape.{IsOn}
 use Rattle.circuit_model.specs.Product.{basis_state, same_bits}
@@ -156,6 +159,29 @@ none_is s m given h size none x len after = sym (entry_is s x h len) ∙ none x 
     after_from None y a = a
     after_from (Some z) y a = a
 
+pub last_is : (s : State) (m : ℕ) (x : List Bool) → IsKept s → m ≡ length s.input → amplitudes.IsLastNonzero m (entries_in s.diagrams.store s.quad.four) x
+    → amplitudes.IsLastNonzero (length s.input) (work s.gates s.input).entries x
+last_is s m x h size is = record {
+  long = is.long ∙ size;
+  nonzero = λ zero. is.nonzero (entry_is s x h (is.long ∙ size) ∙ zero);
+  last = λ y len after. sym (entry_is s y h len) ∙ is.last y (len ∙ sym size) after;
+}
+
+-- a count of zeros reads the lists alone
+count_same : (f g : List Bool → Quad) (xs : List (List Bool)) (a : ℕ) → ((i : ℕ) → i < length xs → f (get_or xs i []) ≡ g (get_or xs i []))
+    → fold (λ m x. m + cond (not (is_zero (f x))) 1 0) a xs ≡ fold (λ m x. m + cond (not (is_zero (g x))) 1 0) a xs
+count_same f g [] a h = refl
+count_same f g (x ∷ xs) a h =
+    count_same f g xs (a + cond (not (is_zero (f x))) 1 0) (λ i lt. h (suc i) (omega arith))
+    ∙ ap (λ q. fold (λ m y. m + cond (not (is_zero (g y))) 1 0) (a + cond (not (is_zero q)) 1 0) xs) (h 0 (omega arith))
+
+pub number_is : (s : State) (m : ℕ) → IsKept s → m ≡ length s.input → amplitudes.number_nonzero m (entries_in s.diagrams.store s.quad.four) ≡ amplitudes.number_nonzero (length s.input) (work s.gates s.input).entries
+number_is s m h size =
+    let n = length s.input in
+    ap (λ (k : ℕ). amplitudes.number_nonzero k (entries_in s.diagrams.store s.quad.four)) size
+    ∙ count_same (entries_in s.diagrams.store s.quad.four) (work s.gates s.input).entries (all_lists n) 0 (λ i lt.
+    entry_is s (get_or (all_lists n) i []) h (listed n i [] (omega (arith, lt, length-all_lists n))).0)
+
 -- ---- what a gate's step says, in the words of the state
 pub fits_state : (s : State) (g : Gate) (width : ℕ) → IsKept s → width ≡ s.rules.width → FitsWidth (length s.diagrams.store.order) width (raw g (work s.gates s.input)).entries → Fits (standing_of s) g
 fits_state s g width h e fits =
@@ -170,12 +196,21 @@ state_fits s g width h e fits =
     subst (λ n. FitsWidth n width (raw g (work s.gates s.input)).entries) (sym size) here
 
 -- ---- answers by other words
-pub ok_some : {E : Type 0} (r : Result (Option (List Bool)) E) (P Q : List Bool → Type 0) → IfOk r (λ next. IfSome next P) → ((x : List Bool) → P x → Q x) → IfOk r (λ next. IfSome next Q)
+pub ok_some : {X E : Type 0} (r : Result (Option X) E) (P Q : X → Type 0) → IfOk r (λ next. IfSome next P) → ((x : X) → P x → Q x) → IfOk r (λ next. IfSome next Q)
 ok_some (Ok (Some x)) P Q h to = to x h
 ok_some (Ok None) P Q h to = tt
 ok_some (Err e) P Q h to = tt
 
-pub ok_none : {E : Type 0} (r : Result (Option (List Bool)) E) (P Q : Type 0) → IfOk r (λ next. IfNone next P) → (P → Q) → IfOk r (λ next. IfNone next Q)
+pub ok_both : {X E : Type 0} (r : Result (Option X) E) (P Q R : X → Type 0) → IfOk r (λ next. IfSome next P) → IfOk r (λ next. IfSome next Q) → ((x : X) → P x → Q x → R x) → IfOk r (λ next. IfSome next R)
+ok_both (Ok (Some x)) P Q R h k to = to x h k
+ok_both (Ok None) P Q R h k to = tt
+ok_both (Err e) P Q R h k to = tt
+
+pub ok_as : {X E : Type 0} (r : Result X E) (P Q : X → Type 0) → IfOk r P → ((x : X) → P x → Q x) → IfOk r Q
+ok_as (Ok x) P Q h to = to x h
+ok_as (Err e) P Q h to = tt
+
+pub ok_none : {X E : Type 0} (r : Result (Option X) E) (P Q : Type 0) → IfOk r (λ next. IfNone next P) → (P → Q) → IfOk r (λ next. IfNone next Q)
 ok_none (Ok (Some x)) P Q h to = tt
 ok_none (Ok None) P Q h to = to h
 ok_none (Err e) P Q h to = tt

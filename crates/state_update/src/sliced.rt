@@ -7,6 +7,7 @@ use diagram_ops::Diagrams;
 use gate_set::Gate;
 use ring_omega::Quad;
 use slice_quad::{QuadStop, SliceQuad, entry, exponent, next_nonzero, start};
+use slice_weights::{Walk, count_nonzero, last_nonzero};
 use std::alloc::Global;
 use std::marker::Model;
 use step_upkeep::upkept_gate;
@@ -67,6 +68,7 @@ impl Amplitudes for SlicedState {
     ghost use Rattle.gate_set.specs.Shape.{IsOn};
     ghost use Rattle.amp_dense.specs.Standing.{Standing, Accepts, Applies, MayStop, NamesOrder, in_order};
     ghost use Rattle.node_reclaim.specs.Reclaims.{HoldsOnly};
+    ghost use Rattle.slice_weights.specs.Paths.{IsWalk};
     ghost use Rattle.step_upkeep.specs.Due.{is_due};
     ghost use Rattle.state_update.specs.Kept.{standing_of, sliced_policy, InWork};
 
@@ -74,9 +76,15 @@ impl Amplitudes for SlicedState {
 
     ghost MOST = { 64 };
 
+    type Walk = Walk;
+
     ghost standing = { λ s. standing_of s };
 
     ghost policy = { sliced_policy };
+
+    ghost walks = { λ s w. IsWalk s.diagrams.store s.quad.four w };
+
+    ghost last = { λ w. w.last };
 
     fn start(alloc: Global, input: &Bits, rules: &Rules) -> Result<Self, Stop> {
         let _width = rules.width();
@@ -145,6 +153,22 @@ impl Amplitudes for SlicedState {
         after: Option<&Bits>,
     ) -> Result<Option<Bits>, OutOfMemory> {
         next_nonzero(&self.diagrams, &self.quad, after)
+    }
+
+    fn walk(&self, alloc: Global) -> Result<Walk, OutOfMemory> {
+        Walk::begin(alloc, &self.diagrams, &self.quad)
+    }
+
+    fn advance(&self, walk: &mut Walk) -> Result<Option<(Bits, Quad)>, OutOfMemory> {
+        walk.advance(&self.diagrams, &self.quad.four)
+    }
+
+    fn last_nonzero(&self, alloc: Global) -> Result<Option<Bits>, OutOfMemory> {
+        last_nonzero(alloc, &self.diagrams, &self.quad)
+    }
+
+    fn count_nonzero(&self, alloc: Global) -> Result<u128, OutOfMemory> {
+        count_nonzero(alloc, &self.diagrams, &self.quad)
     }
 
     fn exponent(&self) -> u32 {

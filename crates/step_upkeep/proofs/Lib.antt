@@ -1,8 +1,11 @@
 pub mod Digits
+pub mod Enough
 pub mod Gates
 pub mod Keeping
 pub mod Roots
+pub mod StepFor
 pub mod Stored
+pub mod StoredAfter
 pub mod Trying
 pub mod Values
 pub mod Widths

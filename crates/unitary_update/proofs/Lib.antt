@@ -1,3 +1,5 @@
+pub mod Enough
 pub mod MatrixLemmas
 pub mod NodeLemmas
+pub mod StepEnds
 pub mod Woven

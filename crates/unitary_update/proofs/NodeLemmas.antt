@@ -6,7 +6,7 @@ use Rattle.circuit_model.specs.Working.{Scaled}
 use Rattle.comparison.specs.Products.{Step, by_position, work_matrix}
 use Rattle.diagram_model.specs.Functions.{Assignment, Function}
 use Rattle.diagram_model.specs.Size.{size}
-use Rattle.diagram_model.specs.Stores.{Diagram, IsSound}
+use Rattle.diagram_model.specs.Stores.{Diagram, IsSound, function_of}
 use Rattle.diagram_ops.specs.Made.{IsPrefixOfSome}
 use Rattle.node_reclaim.proofs.Bound.{size-le, one_some}
 use Rattle.slice_quad.specs.declared.four.Four.{Four}
@@ -17,17 +17,19 @@ use Rattle.slice_quad.specs.Vectors.{vector_in}
 use Rattle.slice_gates.specs.Shown.{at_lists, first_values, ReadsBelow, IsMatrixShown}
 use Rattle.slice_gates.specs.Sides.{woven}
 use Rattle.slice_gates.proofs.Agreeing.{length-first_values, at_list, vector-reads}
+use Rattle.step_upkeep.specs.Stored.{stored_functions}
 use Rattle.step_upkeep.specs.Upkept.{work_in}
+use Rattle.step_upkeep.proofs.Stored.{stored_held}
 use Rattle.step_upkeep.proofs.Widths.{work_within}
-use Rattle.unitary_update.specs.Kept.{State, IsKept, standing_of, sliced_step, by_variables, work_of, needed}
+use Rattle.unitary_update.specs.Kept.{State, IsKept, standing_of, sliced_step, by_variables, work_of, stored_of, needed, IsStored}
 use Rattle.unitary_update.proofs.MatrixLemmas.{size_of_order}
 
 -- ---- the matrix over the variables
-values_same : (n : ℕ) (x y : Assignment) → ((i : ℕ) → x i ≡ y i) → first_values n x ≡ first_values n y
+pub values_same : (n : ℕ) (x y : Assignment) → ((i : ℕ) → x i ≡ y i) → first_values n x ≡ first_values n y
 values_same n x y same = ap (first_values n) (fun_ext (λ i. same i))
 
 -- the row's bits and the column's in turns are the values of all variables
-woven_values : (n : ℕ) (x : Assignment) → woven (first_values n (λ q. x (2 * q))) (first_values n (λ q. x (2 * q + 1))) ≡ first_values (2 * n) x
+pub woven_values : (n : ℕ) (x : Assignment) → woven (first_values n (λ q. x (2 * q))) (first_values n (λ q. x (2 * q + 1))) ≡ first_values (2 * n) x
 unfolding first_values
 woven_values zero x = let none : 2 * zero ≡ zero = omega arith in ap (λ k. first_values k x) (sym none)
 woven_values (suc n) x =
@@ -85,3 +87,18 @@ module _ (s : State) (h : IsKept s) where
       size-le k k d.order (work_of (standing_of s) t) fs h.sound.store.diagram.order (λ f is. work_wider t f (one_some d.order fs f is)) in
       let limit = h.limit in
       omega (arith, most, le, limit)
+
+  -- the matrix is stored by as many nodes as the rules allow at most
+  pub stored_few : IsStored (standing_of s)
+  unfolding stored_of
+  stored_few =
+      let W = s.rules.width in
+      let v : Vector = by_variables s.qubits (by_position (work_matrix s.qubits s.steps).entries) in
+      let matrix = shown_matrix s.qubits d s.quad.four s.quad.exponent (work_matrix s.qubits s.steps) h.sound.store (size_of_order d.order (2 * s.qubits) h.order) h.shows in
+      let same : stored_functions W (row_equals_column s.qubits) v ≡ stored_functions W (function_of d s.quad.kept.0) (vector_in d s.quad.four) =
+      ap (λ (f : Function). stored_functions W f v) (sym h.kept) ∙ ap (λ (u : Vector). stored_functions W (function_of d s.quad.kept.0) u) matrix in
+      let counts : size (length d.order) d.order (stored_functions W (row_equals_column s.qubits) v) ≡ size (length d.order) d.order (stored_functions W (function_of d s.quad.kept.0) (vector_in d s.quad.four)) =
+      ap (λ (fs : List Function). size (length d.order) d.order fs) same in
+      let le = stored_held d s.quad h.stands W h.sound.store in
+      let few = h.sound.store.few in let limit = h.limit in
+      omega (arith, counts, le, few, limit)

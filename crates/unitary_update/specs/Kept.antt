@@ -23,6 +23,7 @@ use Rattle.slice_gates.specs.declared.side.Side.TheVariants.{Rows, Columns}
 use Rattle.slice_gates.specs.Shown.{first_values, IsMatrixShown}
 use Rattle.slice_gates.specs.Sides.{place_on}
 use Rattle.slice_gates.specs.Stepped.{step_for}
+use Rattle.step_upkeep.specs.Stored.{stored_functions}
 use Rattle.unitary_update.specs.declared.accepted.MatrixStep.{MatrixStep}
 use Rattle.unitary_update.specs.declared.accepted.MatrixStep.TheVariants.{Left, Right}
 
@@ -54,11 +55,6 @@ begun n rules = record { qubits = n; rules = rules; steps = []; order = range_wi
 abbrev pub with_step : Standing → Step → Standing
 with_step s t = record { qubits = s.qubits; rules = s.rules; steps = s.steps ++ t ∷ []; order = s.order }
 
--- the step is accepted, and then the matrix stands by r
-pub record Accepts (s : Standing) (t : Step) (r : Standing) : Type 0 where
-  pub fits : RawStepFits s.rules.width s.qubits s.steps t
-  pub same : r ≡ with_step s t
-
 -- ---- nodes
 -- a matrix on n qubits, by the values of 2n variables: bit q of the row is variable 2q, and bit q of the column is variable 2q + 1
 unfoldable pub by_variables : ℕ → Matrix → Vector
@@ -70,9 +66,24 @@ by_variables n m x = m (first_values n (λ q. x (place_on Rows q))) (first_value
 unfoldable pub work_of : Standing → Step → List Function
 work_of s t = work_functions s.rules.width (row_equals_column s.qubits) (sliced_step s.qubits t) (by_variables s.qubits (by_position (work_matrix s.qubits s.steps).entries))
 
+-- the functions that the matrix is stored by
+unfoldable pub stored_of : Standing → List Function
+stored_of s = stored_functions s.rules.width (row_equals_column s.qubits) (by_variables s.qubits (by_position (work_matrix s.qubits s.steps).entries))
+
 -- how many nodes functions need in the order in force
 abbrev pub needed : Standing → List Function → ℕ
 needed s fs = size (length s.order) s.order fs
+
+-- ---- acceptance
+-- the rules let the diagrams hold as many nodes as the matrix is stored by
+abbrev pub IsStored : Standing → Type 0
+IsStored s = needed s (stored_of s) ≤ s.rules.nodes
+
+-- the step is accepted, and then the matrix stands by r
+pub record Accepts (s : Standing) (t : Step) (r : Standing) : Type 0 where
+  pub fits : RawStepFits s.rules.width s.qubits s.steps t
+  pub stored : IsStored (with_step s t)
+  pub same : r ≡ with_step s t
 
 -- ---- stops
 -- what a refusal of a step says: its number, counted from 1, and that its product doesn't fit, or that its work functions alone need at

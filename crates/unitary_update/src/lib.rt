@@ -2,11 +2,13 @@
 #![tactic(auto)]
 
 mod accepted;
+mod laws;
 mod matrix;
 mod multiplying;
 mod weaving;
 
 pub use accepted::MatrixStep;
+pub use laws::{each_step_has_an_end, enough_nodes};
 pub use matrix::SlicedMatrix;
 
 #[cfg(test)]

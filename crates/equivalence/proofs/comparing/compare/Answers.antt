@@ -3,6 +3,7 @@ use Rattle.std.proofs.Math.Path.{ap₂}
 use Rattle.gate_set.specs.Shape.{IsOn}
 use Rattle.comparison.specs.Products.{Step, AllStepsFit}
 use Rattle.comparison.specs.Steps.{steps_of}
+use Rattle.equivalence.specs.Stops.{AllStepsStored}
 use Rattle.equivalence.proofs.Stepping.{concluded}
 use Rattle.equivalence.proofs.comparing.compare.Goals as goal
 
@@ -22,3 +23,11 @@ returns-clause-fits c =
     let steps : steps_of c.gates-us.result.now c.gates-vs.result.now ≡ steps_of u.gates v.gates = ap₂ steps_of c.gates-us.ensures.value c.gates-vs.ensures.value in
     let P : ℕ → List Step → Type 0 = λ n l. AllStepsFit c.args.rules.now.width n l in
     subst (λ n. P n (steps_of u.gates v.gates)) c.qubits-qubits.ensures.value (subst (λ l. P c.qubits-qubits.result l) steps c.in_ok-matrix.ensures.fits)
+
+pub returns-clause-stored : goal.returns-clause-stored
+returns-clause-stored c =
+    let u = c.args.u.now in
+    let v = c.args.v.now in
+    let steps : steps_of c.gates-us.result.now c.gates-vs.result.now ≡ steps_of u.gates v.gates = ap₂ steps_of c.gates-us.ensures.value c.gates-vs.ensures.value in
+    let P : ℕ → List Step → Type 0 = λ n l. AllStepsStored c.args.rules.now n l in
+    subst (λ n. P n (steps_of u.gates v.gates)) c.qubits-qubits.ensures.value (subst (λ l. P c.qubits-qubits.result l) steps c.in_ok-matrix.ensures.stored)

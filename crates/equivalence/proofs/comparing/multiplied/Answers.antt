@@ -9,6 +9,7 @@ use Rattle.comparison.specs.Sides.{step_of, lefts, rights}
 use Rattle.comparison.specs.Steps.{mixed, steps_of}
 use Rattle.comparison.proofs.TurnLemmas.{take-next, one_side, length-steps_of}
 use Rattle.unitary_update.specs.Kept.{standing_of}
+use Rattle.equivalence.specs.Stops.{AllStepsStored}
 use Rattle.equivalence.proofs.Stepping.{begins, one_after, stops_after, few_steps}
 use Rattle.equivalence.proofs.comparing.multiplied.Goals as goal
 
@@ -68,6 +69,12 @@ returns-clause-fits c =
     let e : c.steps._step ≡ length c.args.us.now + length c.args.vs.now = search rules in
     let P : List Step → Type 0 = λ l. AllStepsFit c.args.rules.now.width c.args.qubits l in
     subst P (whole c.args.us.now c.args.vs.now c.steps._step e) c.steps.invariant.after.fits
+
+pub returns-clause-stored : goal.returns-clause-stored
+returns-clause-stored c =
+    let e : c.steps._step ≡ length c.args.us.now + length c.args.vs.now = search rules in
+    let P : List Step → Type 0 = λ l. AllStepsStored c.args.rules.now c.args.qubits l in
+    subst P (whole c.args.us.now c.args.vs.now c.steps._step e) c.steps.invariant.after.stored
 
 pub returns-in_err-multiply-clause-stop : goal.returns-in_err-multiply-clause-stop
 returns-in_err-multiply-clause-stop c =

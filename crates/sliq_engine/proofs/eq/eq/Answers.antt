@@ -6,7 +6,7 @@ use Rattle.comparison.specs.Scalars.{comparison, compared}
 use Rattle.comparison.specs.Products.{AllStepsFit}
 use Rattle.comparison.specs.Steps.{steps_of}
 use Rattle.comparison.proofs.Verdicts.{verdict-short}
-use Rattle.equivalence.specs.Stops.{StopMeans}
+use Rattle.equivalence.specs.Stops.{AllStepsStored, StopMeans}
 use Rattle.sliq_engine.specs.declared.output.SendStop.{SendStop}
 use Rattle.sliq_engine.specs.declared.cause.Cause.{Cause}
 use Rattle.sliq_engine.specs.Steps.{SameQubits, cause_of}
@@ -68,7 +68,7 @@ returns-in_err-send_verdict-clause-stop g c =
     let stop : SendStop = c.in_err-send_verdict.field-0.0 in
     let told : c.from_residual-in_err-send_verdict.result ≡ Err (cause_of_sending stop) = search rules in
     let room : 3 * u.qubits ≤ c.args.rules.now.nodes = c.in_ok-verdict.ensures.room in
-    let fits : AllStepsFit c.args.rules.now.width u.qubits (steps_of u.gates v.gates) = c.in_ok-verdict.ensures.fits in
+    let fits : AllStepsFit c.args.rules.now.width u.qubits (steps_of u.gates v.gates) × AllStepsStored c.args.rules.now u.qubits (steps_of u.gates v.gates) = (c.in_ok-verdict.ensures.fits, c.in_ok-verdict.ensures.stored) in
     rw told (eq_stops c.args.rules.now c.args.one.now c.args.two.now c.in_ok-u.u c.in_ok-u.ensures.reads c.in_ok-v.v c.in_ok-v.ensures.reads (same_numbers c.in_ok-u.u.qubits c.in_ok-v.v.qubits c.qubits.result c.qubits-2.result c.qubits.ensures.value c.qubits-2.ensures.value c.in_ok-check_qubits.ensures.same) room fits c.in_ok-verdict.verdict c.in_ok-verdict.ensures.verdict stop
     (g.K.Sink.written c.args.out.now) (g.K.Sink.written c.send_verdict.new.out) c.in_err-send_verdict.ensures.err)
 
@@ -79,7 +79,7 @@ returns-in_err-told-clause-stop g c =
     let cause : Cause = c.in_err-told.field-0.0 in
     let told : c.from_residual-in_err-told.result ≡ Err cause = search rules in
     let room : 3 * u.qubits ≤ c.args.rules.now.nodes = c.in_ok-verdict.ensures.room in
-    let fits : AllStepsFit c.args.rules.now.width u.qubits (steps_of u.gates v.gates) = c.in_ok-verdict.ensures.fits in
+    let fits : AllStepsFit c.args.rules.now.width u.qubits (steps_of u.gates v.gates) × AllStepsStored c.args.rules.now u.qubits (steps_of u.gates v.gates) = (c.in_ok-verdict.ensures.fits, c.in_ok-verdict.ensures.stored) in
     let said = c.in_err-told.ensures.differs in
     let P : Cause → Type 0 = λ k. MayEnd (Compares c.args.rules.now c.args.one.now c.args.two.now) k (g.K.Sink.written c.args.out.now) (g.K.Sink.written c.send_verdict.new.out) in
     rw told (subst P (sym said.1) (eq_differs c.args.rules.now c.args.one.now c.args.two.now c.in_ok-u.u c.in_ok-u.ensures.reads c.in_ok-v.v c.in_ok-v.ensures.reads (same_numbers c.in_ok-u.u.qubits c.in_ok-v.v.qubits c.qubits.result c.qubits-2.result c.qubits.ensures.value c.qubits-2.ensures.value c.in_ok-check_qubits.ensures.same) room fits c.in_ok-verdict.verdict c.in_ok-verdict.ensures.verdict
@@ -90,6 +90,6 @@ returns-clause-done g c =
     let u : Circuit = c.in_ok-u.u in
     let v : Circuit = c.in_ok-v.v in
     let room : 3 * u.qubits ≤ c.args.rules.now.nodes = c.in_ok-verdict.ensures.room in
-    let fits : AllStepsFit c.args.rules.now.width u.qubits (steps_of u.gates v.gates) = c.in_ok-verdict.ensures.fits in
+    let fits : AllStepsFit c.args.rules.now.width u.qubits (steps_of u.gates v.gates) × AllStepsStored c.args.rules.now u.qubits (steps_of u.gates v.gates) = (c.in_ok-verdict.ensures.fits, c.in_ok-verdict.ensures.stored) in
     eq_done c.args.rules.now c.args.one.now c.args.two.now c.in_ok-u.u c.in_ok-u.ensures.reads c.in_ok-v.v c.in_ok-v.ensures.reads (same_numbers c.in_ok-u.u.qubits c.in_ok-v.v.qubits c.qubits.result c.qubits-2.result c.qubits.ensures.value c.qubits-2.ensures.value c.in_ok-check_qubits.ensures.same) room fits c.in_ok-verdict.verdict c.in_ok-verdict.ensures.verdict
     (g.K.Sink.written c.args.out.now) (g.K.Sink.written c.send_verdict.new.out) c.in_ok-told.ensures.done c.in_ok-send_verdict.ensures.ok

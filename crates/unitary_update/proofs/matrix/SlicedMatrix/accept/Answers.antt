@@ -11,9 +11,9 @@ use Rattle.step_upkeep.specs.Upkept as quads
 use Rattle.step_upkeep.specs.Upkept.{work_in}
 use Rattle.slice_quad.specs.Vectors.{Stands}
 use Rattle.unitary_update.specs.declared.accepted.MatrixStep.{MatrixStep}
-use Rattle.unitary_update.specs.Kept.{State, Standing, IsKept, standing_of, with_step, step_in, sliced_step, work_of, needed}
+use Rattle.unitary_update.specs.Kept.{State, Standing, IsKept, standing_of, with_step, step_in, sliced_step, work_of, needed, IsStored}
 use Rattle.unitary_update.proofs.MatrixLemmas.{size_of_order, state_with, kept_next, kept_stop, shows_on, keeps_on, fits_state, state_fits}
-use Rattle.unitary_update.proofs.NodeLemmas.{step_needs}
+use Rattle.unitary_update.proofs.NodeLemmas.{step_needs, stored_few}
 use Rattle.unitary_update.proofs.matrix.SlicedMatrix.accept.Goals as goal
 
 pub multiply-requires-clause-variables : goal.multiply-requires-clause-variables
@@ -61,8 +61,17 @@ returns-in-Ok-clause-accepts c =
     let fits : RawStepFits s.rules.width s.qubits (map step_in s.steps.items) t = fits_state shown t c.width-width.result c.width-width.ensures.value (c.in-Ok.ensures.fits w h.shows) in
     let standing : List Step → Standing = λ l. record { qubits = s.qubits; rules = s.rules; steps = l; order = v.store.order } in
     let later : List ℕ → Standing = λ o. record { qubits = s.qubits; rules = s.rules; steps = map step_in s.steps.items ++ t ∷ []; order = o } in
+    let few : length (map step_in s.steps.items) < 2000000 = subst (λ (m : State). length m.steps < 2000000) (sym c.self.view_is) c.requires.few in
+    let narrow = c.in-Ok.ensures.narrow in let width = c.width-width.ensures.value in
+    let next : IsKept (state_with s.qubits s.rules (map step_in s.steps.items ++ t ∷ []) v c.multiply.new.q) =
+    kept_next shown t (map step_in s.steps.items ++ t ∷ []) v c.multiply.new.q h few refl keeps.sound keeps.order keeps.limit c.multiply.ensures.stands
+    (c.in-Ok.ensures.shown w h.shows) c.in-Ok.ensures.raised (omega (arith, narrow, width))
+    (keeps_on s.qubits u v s.quad c.multiply.new.q keeps c.multiply.ensures.kept h.kept) in
+    let there : IsStored (later v.store.order) = stored_few (state_with s.qubits s.rules (map step_in s.steps.items ++ t ∷ []) v c.multiply.new.q) next in
+    let here : IsStored (with_step (standing_of shown) t) = subst (λ (o : List ℕ). IsStored (later o)) keeps.order there in
     record {
       fits = subst (λ (m : State). RawStepFits m.rules.width m.qubits m.steps t) c.self.view_is fits;
+      stored = subst (λ (m : State). IsStored (with_step (standing_of m) t)) c.self.view_is here;
       same = ap standing steps ∙ ap later keeps.order ∙ ap (λ (m : State). with_step (standing_of m) t) c.self.view_is;
     }
 
