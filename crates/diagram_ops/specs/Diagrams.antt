@@ -14,7 +14,7 @@ use Rattle.diagram_ops.specs.Keys.{keyed}
 use Rattle.diagram_ops.specs.Made.{Property}
 
 -- a store, and the cache of its connectives
-pub record Shared : Type 0 where
+pub record StoreAndCache : Type 0 where
   pub store : Diagram
   pub cache : Cached
 
@@ -53,17 +53,17 @@ abbrev pub AreRight : Diagram → List (Key × ℕ) → Type 0
 AreRight d es = All (IsRight d) es
 
 -- what holds of all diagrams
-pub record IsConsistent (v : Shared) : Type 0 where
+pub record IsConsistent (v : StoreAndCache) : Type 0 where
   pub store : IsSound v.store
   pub entries : AreRight v.store v.cache.entries
 
 -- the call answered with the value n that the cache had
-pub record IsHit (old new : Shared) (n : ℕ) (result : Result Node StoreStop) : Type 0 where
+pub record IsHit (old new : StoreAndCache) (n : ℕ) (result : Result Node StoreStop) : Type 0 where
   pub answer : result ≡ Ok (record { 0 = n })
   pub store : new.store ≡ old.store
 
 -- the call answered with the node of the variable v, or was refused: diagrams with old before new
-pub record MakesVariable (v : ℕ) (old new : Shared) (result : Result Node StoreStop) : Type 0 where
+pub record MakesVariable (v : ℕ) (old new : StoreAndCache) (result : Result Node StoreStop) : Type 0 where
   pub live : IfOk result (λ n. IsLive new.store n.0)
   pub denotes : IfOk result (λ n. function_of new.store n.0 ≡ variable_of v)
   pub only : IfOk result (λ n. AddsOnly old.store new.store n.0)

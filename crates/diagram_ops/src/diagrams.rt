@@ -55,9 +55,9 @@ pub struct Diagrams {
 }
 
 impl Model for Diagrams {
-    ghost use Rattle.diagram_ops.specs.Diagrams.{Shared, AreRight};
+    ghost use Rattle.diagram_ops.specs.Diagrams.{StoreAndCache, AreRight};
 
-    ghost Value = { Shared };
+    ghost Value = { StoreAndCache };
 
     ghost view = { λ d. record { store = d.store; cache = d.cache } };
 
