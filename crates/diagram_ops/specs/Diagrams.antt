@@ -1,19 +1,20 @@
 -- A store with the cache of its connectives, as contracts see it.
-use Rattle.std.specs.Prelude.{◌≡◌, ℕ, Bool, List, Result, Ok}
+use Rattle.std.specs.Prelude.{◌≡◌, ℕ, Bool, List, Result, Ok, IfOk, IfErr, OnOk, OnErr}
 use Rattle.std.specs.List.{All}
 use Rattle.computed_cache.specs.declared.key.Key.{Key}
 use Rattle.computed_cache.specs.Entries.{Cached, kept}
 use Rattle.diagram_model.specs.Functions.{Function, fix, IsPrefixOf}
-use Rattle.diagram_model.specs.Stores.{Diagram, IsLive, IsSound, function_of}
+use Rattle.diagram_model.specs.Stores.{Diagram, IsLive, IsSound, Extends, KeepsFunctions, AddsOnly, NoRoom, function_of, counted, requested}
 use Rattle.node_store.specs.declared.node.Node.{Node}
 use Rattle.node_store.specs.declared.node.StoreStop.{StoreStop}
+use Rattle.node_store.specs.Makes.{StopMeans}
 use Rattle.diagram_ops.specs.Connectives.{connected}
 use Rattle.diagram_ops.specs.declared.operands.Operands.{Operands}
 use Rattle.diagram_ops.specs.Keys.{keyed}
 use Rattle.diagram_ops.specs.Made.{Property}
 
 -- a store, and the cache of its connectives
-pub record Shared : Type 0 where
+pub record StoreAndCache : Type 0 where
   pub store : Diagram
   pub cache : Cached
 
@@ -52,14 +53,28 @@ abbrev pub AreRight : Diagram → List (Key × ℕ) → Type 0
 AreRight d es = All (IsRight d) es
 
 -- what holds of all diagrams
-pub record IsConsistent (v : Shared) : Type 0 where
+pub record IsConsistent (v : StoreAndCache) : Type 0 where
   pub store : IsSound v.store
   pub entries : AreRight v.store v.cache.entries
 
 -- the call answered with the value n that the cache had
-pub record IsHit (old new : Shared) (n : ℕ) (result : Result Node StoreStop) : Type 0 where
+pub record IsHit (old new : StoreAndCache) (n : ℕ) (result : Result Node StoreStop) : Type 0 where
   pub answer : result ≡ Ok (record { 0 = n })
   pub store : new.store ≡ old.store
+
+-- the call answered with the node of the variable v, or was refused: diagrams with old before new
+pub record MakesVariable (v : ℕ) (old new : StoreAndCache) (result : Result Node StoreStop) : Type 0 where
+  pub live : IfOk result (λ n. IsLive new.store n.0)
+  pub denotes : IfOk result (λ n. function_of new.store n.0 ≡ variable_of v)
+  pub only : IfOk result (λ n. AddsOnly old.store new.store n.0)
+  pub refused : OnErr result (new.store ≡ requested old.store)
+  pub made : new.store.made ≡ counted old.store.made
+  pub stop : IfErr result (StopMeans old.store v 0 1)
+  pub room : OnOk result (NoRoom old.store v 0 1 → ⊥)
+  pub extends : Extends old.store new.store
+  pub functions : KeepsFunctions old.store new.store
+  pub cache : new.cache ≡ old.cache
+  pub sound : IsConsistent new
 
 -- the cache after a put of the answer under its key, which stands first then: also what a look at a key
 -- leaves that has this answer

@@ -4,14 +4,13 @@ ghost use Rattle.std.specs.Borrow.{sem};
 ghost use Rattle.std.specs.List.{range_with_len};
 ghost use Rattle.computed_cache.specs.Entries.{value_at};
 ghost use Rattle.diagram_model.specs.Functions.{IsPrefixOf, fix};
-ghost use Rattle.diagram_model.specs.Stores.{held, IsLive, Extends, KeepsFunctions, AddsOnly, NoRoom, function_of, counted, requested};
+ghost use Rattle.diagram_model.specs.Stores.{held, IsLive, Extends, KeepsFunctions, function_of};
 ghost use Rattle.diagram_ops.specs.Bounds.{joint_size_in, joint_size_of, size_in, TakesAtMost};
 ghost use Rattle.diagram_ops.specs.Cofactors.{numbers_of, functions_of, AreAllLive, InCofactors, AreCofactors};
-ghost use Rattle.diagram_ops.specs.Diagrams.{IsConsistent, IsHit, with_answer, key_of, connective_of, InConnective, InCofactor, variable_of};
+ghost use Rattle.diagram_ops.specs.Diagrams.{IsConsistent, IsHit, with_answer, MakesVariable, key_of, connective_of, InConnective, InCofactor};
 ghost use Rattle.diagram_ops.specs.Flips.{flip, exchanged, flipping_of, InFlipping, InExchange};
 ghost use Rattle.diagram_ops.specs.Lending.{lends_store};
 ghost use Rattle.diagram_ops.specs.Made.{MakesOnly, StopIs};
-ghost use Rattle.node_store.specs.Makes.{StopMeans};
 
 use crate::connect::connect;
 use crate::flipped::connect_flipped;
@@ -56,9 +55,9 @@ pub struct Diagrams {
 }
 
 impl Model for Diagrams {
-    ghost use Rattle.diagram_ops.specs.Diagrams.{Shared, AreRight};
+    ghost use Rattle.diagram_ops.specs.Diagrams.{StoreAndCache, AreRight};
 
-    ghost Value = { Shared };
+    ghost Value = { StoreAndCache };
 
     ghost view = { λ d. record { store = d.store; cache = d.cache } };
 
@@ -128,17 +127,7 @@ impl Diagrams {
     /// The function that is true where a variable is.
     pub fn variable(&mut self, var: u8) -> Result<Node, StoreStop>
         requires var { var < length self.old.store.order }
-        ensures live { IfOk result (λ n. IsLive self.new.store n.0) }
-        ensures denotes { IfOk result (λ n. function_of self.new.store n.0 ≡ variable_of var) }
-        ensures only { IfOk result (λ n. AddsOnly self.old.store self.new.store n.0) }
-        ensures refused { OnErr result (self.new.store ≡ requested self.old.store) }
-        ensures made { self.new.store.made ≡ counted self.old.store.made }
-        ensures stop { IfErr result (StopMeans self.old.store var 0 1) }
-        ensures room { OnOk result (NoRoom self.old.store var 0 1 → ⊥) }
-        ensures extends { Extends self.old.store self.new.store }
-        ensures functions { KeepsFunctions self.old.store self.new.store }
-        ensures cache { self.new.cache ≡ self.old.cache }
-        ensures sound { IsConsistent self.new }
+        ensures { MakesVariable var self.old self.new result }
     {
         self.variable_counted::<Brand>(var, Blank::new(1))
     }
@@ -148,17 +137,7 @@ impl Diagrams {
         requires name { blank.name ≡ L.name }
         requires parts { blank.parts ≡ L.parts }
         requires some { 0 < blank.parts }
-        ensures live { IfOk result (λ n. IsLive self.new.store n.0) }
-        ensures denotes { IfOk result (λ n. function_of self.new.store n.0 ≡ variable_of var) }
-        ensures only { IfOk result (λ n. AddsOnly self.old.store self.new.store n.0) }
-        ensures refused { OnErr result (self.new.store ≡ requested self.old.store) }
-        ensures made { self.new.store.made ≡ counted self.old.store.made }
-        ensures stop { IfErr result (StopMeans self.old.store var 0 1) }
-        ensures room { OnOk result (NoRoom self.old.store var 0 1 → ⊥) }
-        ensures extends { Extends self.old.store self.new.store }
-        ensures functions { KeepsFunctions self.old.store self.new.store }
-        ensures cache { self.new.cache ≡ self.old.cache }
-        ensures sound { IsConsistent self.new }
+        ensures { MakesVariable var self.old self.new result }
     {
         let mut steps = Steps::<L>::new(blank);
         let _held = self.store.held();
@@ -286,8 +265,9 @@ impl Diagrams {
     /// functions have the values f, g and h.
     ///
     /// Asks the cache, then takes expected time in the triples of nodes that are met, and keeps its
-    /// answer in the cache. Where T reads its operands in any order, one answer serves all orders. Takes new memory for nodes, for an entry of the cache that takes no other's
-    /// place, and for more results than in any call before.
+    /// answer in the cache. Where T reads its operands in any order, one answer serves all orders.
+    /// Takes new memory for nodes, for an entry of the cache that takes no other's place, and for more
+    /// results than in any call before.
     pub fn apply3<const T: u8, L: Ledger>(
         &mut self,
         f: Node,

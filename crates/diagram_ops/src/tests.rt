@@ -275,9 +275,9 @@ struct Growing {
 impl Model for Growing {
     ghost use Rattle.std.specs.List.{All};
     ghost use Rattle.diagram_model.specs.Stores.{IsLive};
-    ghost use Rattle.diagram_ops.specs.Diagrams.{Shared};
+    ghost use Rattle.diagram_ops.specs.Diagrams.{StoreAndCache};
 
-    ghost Value = { Shared };
+    ghost Value = { StoreAndCache };
 
     ghost view = { λ a. a.diagrams };
 

@@ -23,7 +23,7 @@ use Rattle.comparison.proofs.Verdicts.{verdict-same}
 use Rattle.comparison.proofs.Working.{work_matrix-value}
 use Rattle.slice_quad.specs.declared.quad.SliceQuad.{SliceQuad}
 use Rattle.slice_quad.specs.Walks.{entries_in}
-use Rattle.diagram_ops.specs.Diagrams.{Shared}
+use Rattle.diagram_ops.specs.Diagrams.{StoreAndCache}
 use Rattle.unitary_update.specs.Kept.{State, Standing, begun, Accepts, ShowsMatrix, StartStopMeans, with_step, work_of, needed, IsStored, StopMeans as StepStopMeans}
 use Rattle.equivalence.specs.Matrices.{matrix_in}
 use Rattle.equivalence.specs.Stops.{standing_after, AllStepsStored, NextNeedsNodes, MayLackNodes, StopMeans}
@@ -137,7 +137,7 @@ pub few_steps : (n : ℕ) (rules : Settings) (steps : List Step) (t most : ℕ) 
 few_steps n rules steps t most s a lt le = let long = ap length a.done ∙ length-take-le t steps (omega (arith, lt)) in omega (arith, long, lt, le)
 
 -- what is said of the parts of a matrix after all steps
-pub concluded : (n k : ℕ) (us vs xs ys : List Gate) (m : State) (d : Shared) (q : SliceQuad) (v : Verdict) → All (IsOn n) us → All (IsOn n) vs → k ≡ n → xs ≡ us → ys ≡ vs
+pub concluded : (n k : ℕ) (us vs xs ys : List Gate) (m : State) (d : StoreAndCache) (q : SliceQuad) (v : Verdict) → All (IsOn n) us → All (IsOn n) vs → k ≡ n → xs ≡ us → ys ≡ vs
     → m.qubits ≡ k → m.steps ≡ steps_of xs ys → d ≡ m.diagrams → q ≡ m.quad → ShowsMatrix m.qubits m.diagrams.store m.quad (work_matrix m.qubits m.steps)
     → IsVerdict k (matrix_in d.store q) q.exponent v → IsVerdict n (compared us vs) (exponent (comparison us vs)) v
 concluded n k us vs xs ys m d q v on_us on_vs ek ex ey em es ed eq shown h =
@@ -146,5 +146,5 @@ concluded n k us vs xs ys m d q v on_us on_vs ek ex ey em es ed eq shown h =
     subst (λ l. ShowsMatrix n m.diagrams.store m.quad (work_matrix n l)) steps (subst (λ i. ShowsMatrix i m.diagrams.store m.quad (work_matrix i m.steps)) (em ∙ ek) shown) in
     let here : IsVerdict n (matrix_in m.diagrams.store m.quad) m.quad.exponent v =
     subst (λ (s : SliceQuad). IsVerdict n (matrix_in m.diagrams.store s) s.exponent v) eq
-    (subst (λ (s : Shared). IsVerdict n (matrix_in s.store q) q.exponent v) ed (subst (λ i. IsVerdict i (matrix_in d.store q) q.exponent v) ek h)) in
+    (subst (λ (s : StoreAndCache). IsVerdict n (matrix_in s.store q) q.exponent v) ed (subst (λ i. IsVerdict i (matrix_in d.store q) q.exponent v) ek h)) in
     said n us vs m.diagrams.store m.quad v on_us on_vs whole here

@@ -50,7 +50,7 @@ copied_more ts us i t len all here v lt =
       | inr ne ↦ rw (at_push us t v (omega arith)) (all v (omega arith))
     ]
 
-past_tables : (ts : List TableValue) (v : ℕ) → length ts ≤ v → table_at ts v ≡ record { entries = []; spare = 0 }
+past_tables : (ts : List TableValue) (v : ℕ) → length ts ≤ v → table_at ts v ≡ record { entries = []; spare = 0; places = [] }
 past_tables [] v le = refl
 past_tables (t ∷ ts) zero le = absurd (omega arith)
 past_tables (t ∷ ts) (suc v) le = past_tables ts v (omega arith)
@@ -61,7 +61,7 @@ copy_stored a b s eo el ep es len same =
     let all : (v : ℕ) → SameTable (table_at a.tables.items v) (table_at b.tables.items v) = λ v.
     elim (cases_lt v (length a.tables.items)) [
       | inl lt ↦ same v lt
-      | inr ge ↦ rw (past_tables a.tables.items v ge, past_tables b.tables.items v (omega (arith, ge, len))) (table_same (record { entries = []; spare = 0 }))
+      | inr ge ↦ rw (past_tables a.tables.items v ge, past_tables b.tables.items v (omega (arith, ge, len))) (table_same (record { entries = []; spare = 0; places = [] }))
     ] in
     record {
       slotted = slotted_kept (view_of a).diagram (view_of b).diagram eo el (ap (λ m. None ∷ None ∷ m) es) s.slotted;

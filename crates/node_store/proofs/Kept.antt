@@ -26,7 +26,7 @@ pub has_var : (a : Inside) (v : ℕ) → IsStored a → v < length a.order → h
 has_var a v s lt = s.slotted.order.all v lt
 
 pub table_is : (a : Inside) (v : ℕ) (t : TableValue) → IsStored a → has a.order v ≡ true → t ≡ get_or a.tables.items v t → t ≡ table_at a.tables.items v
-table_is a v t s h e = e ∙ get_or_default a.tables.items v t (record { entries = []; spare = 0 }) (within_tables a v s h)
+table_is a v t s h e = e ∙ get_or_default a.tables.items v t (record { entries = []; spare = 0; places = [] }) (within_tables a v s h)
 
 if_some : {A : Type 0} (o : Option A) (P : A → Type 0) → ((x : A) → o ≡ Some x → P x) → IfSome o P
 if_some None P f = tt
@@ -70,7 +70,7 @@ abbrev pub room_at : Slab Parts → List TableValue → ℕ → ℕ
 room_at m ts v = get_or (map (spare_in m) ts) v 0
 
 pub room_is : (m : Slab Parts) (ts : List TableValue) (v : ℕ) → v < length ts → room_at m ts v ≡ spare_in m (table_at ts v)
-room_is m ts v within = get_or-map (spare_in m) ts v (record { entries = []; spare = 0 }) 0 within
+room_is m ts v within = get_or-map (spare_in m) ts v (record { entries = []; spare = 0; places = [] }) 0 within
 
 pub spare_is : (a : Inside) (v : ℕ) → v < length a.tables.items → spare_of (view_of a) v ≡ spare_in a.nodes (table_at a.tables.items v)
 spare_is a v within = room_is a.nodes a.tables.items v within
@@ -393,7 +393,7 @@ pub spare_set : (ts : List TableValue) (v : ℕ) (t u : TableValue) (j : ℕ) �
 spare_set ts v t u j within e le w =
     elim (cases_eq w v) [
       | inl at ↦
-          let old : table_at ts w ≡ t = ap (table_at ts) at ∙ sym (e ∙ get_or_default ts v t (record { entries = []; spare = 0 }) within) in
+          let old : table_at ts w ≡ t = ap (table_at ts) at ∙ sym (e ∙ get_or_default ts v t (record { entries = []; spare = 0; places = [] }) within) in
           let new : table_at (set ts v u) w ≡ u = ap (table_at (set ts v u)) at ∙ table_at-same ts v u within in
           rw (old, new) le
       | inr ne ↦
@@ -431,7 +431,7 @@ module _ (a : Inside) (t u w : TableValue) (k : ℕ) (old new : Parts) (s : IsSt
   at_old = table_is a old.var t s (held_var a k old s there) e
 
   at_new : w ≡ table_at (set a.tables.items old.var u) new.var
-  at_new = f ∙ get_or_default (set a.tables.items old.var u) new.var w (record { entries = []; spare = 0 }) (omega (arith, within_tables a new.var s below, length-set a.tables.items old.var u))
+  at_new = f ∙ get_or_default (set a.tables.items old.var u) new.var w (record { entries = []; spare = 0; places = [] }) (omega (arith, within_tables a new.var s below, length-set a.tables.items old.var u))
 
   out_puts : Puts (table_at a.tables.items old.var) u old.low old.high None
   out_puts = record { here = out.here; others = λ l g other. out.others l g other ∙ ap (λ q. found q l g) at_old }

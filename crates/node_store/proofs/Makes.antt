@@ -1,17 +1,18 @@
 -- What `make` keeps where it adds a node.
-use Rattle.std.proofs.Common.{◌≡◌, ◌<◌, ℕ, true, length, Some, inl, inr, refl, sym, ◌∙◌, ap, Ok, Err, Result, IfOk, OnOk, OnErr}
+use Rattle.std.proofs.Common.{◌≡◌, ◌≢◌, ℕ, true, length, Some, inl, inr, refl, sym, ◌∙◌, ap, arith, Ok, Err, Result, IfOk, IfErr, OnOk, OnErr}
 use Rattle.std.proofs.lemmas.Bool.{cases_eq}
 use Rattle.bit_lists.proofs.Variables.{has-here}
 use Rattle.bit_lists.specs.Orders.{has, after}
 use Rattle.diagram_model.specs.declared.parts.Parts.{Parts}
 use Rattle.diagram_model.specs.Nodes.{parts_of, IsLiveIn, IsProper}
-use Rattle.diagram_model.specs.Stores.{Diagram, IsSound, KeepsFunctions, Extends, AddsOnly, IsChoice, from, held}
+use Rattle.diagram_model.specs.Stores.{Diagram, IsSound, KeepsFunctions, Extends, AddsOnly, IsChoice, NoRoom, from}
 use Rattle.diagram_model.proofs.Extend.{keeps_put}
 use Rattle.diagram_model.proofs.Growing.{functions_kept, sound_put}
 use Rattle.diagram_model.proofs.Values.{value-node}
 use Rattle.node_store.specs.declared.node.Node.{Node}
 use Rattle.node_store.specs.declared.node.StoreStop.{StoreStop}
-use Rattle.node_store.specs.Makes.{FindsOrPuts}
+use Rattle.node_store.specs.declared.node.StoreStop.TheVariants.{Full, OutOfMemory}
+use Rattle.node_store.specs.Makes.{FindsOrPuts, Refuses, StopMeans}
 use Rattle.node_store.specs.Slots.{parts}
 use Rattle.node_store.proofs.Freed.{held_put}
 
@@ -65,6 +66,24 @@ tried_denotes d e v l h (Ok n) t below =
 tried_denotes d e v l h (Err s) t below = tt
 
 -- a store stays sound where a node of proper parts is found or put
-pub found_sound : (d e : Diagram) (p : Parts) (n : ℕ) → IsSound d → e.order ≡ d.order → e.limit ≡ d.limit → has d.order p.var ≡ true → IsProper d.slots d.order p → held d < d.limit → FindsOrPuts d e p n → IsSound e
-found_sound d e p n s eo el below proper room (inl h) = rw h.1 s
-found_sound d e p n s eo el below proper room (inr put) = sound_put d e n p s eo el put.puts put.number below proper put.new room (held_put d.slots e.slots n p put.puts)
+pub found_sound : (d e : Diagram) (p : Parts) (n : ℕ) → IsSound d → e.order ≡ d.order → e.limit ≡ d.limit → has d.order p.var ≡ true → IsProper d.slots d.order p → FindsOrPuts d e p n → IsSound e
+found_sound d e p n s eo el below proper (inl h) = rw h.1 s
+found_sound d e p n s eo el below proper (inr put) = sound_put d e n p s eo el put.puts put.number below proper put.new put.room (held_put d.slots e.slots n p put.puts)
+
+refused_means : (d : Diagram) (v l h : ℕ) (s : StoreStop) → l ≢ h → Refuses d (parts v l h) s → StopMeans d v l h s
+refused_means d v l h (Full k) differ why = (why.0, record { differ = differ; new = why.2; full = why.1 })
+refused_means d v l h OutOfMemory differ why = tt
+
+-- a node whose children differ is refused for want of room or of memory
+pub tried_stop : (d : Diagram) (v l h : ℕ) (r : Result Node StoreStop) → l ≢ h → IfErr r (Refuses d (parts v l h)) → IfErr r (StopMeans d v l h)
+tried_stop d v l h (Ok n) differ why = tt
+tried_stop d v l h (Err s) differ why = refused_means d v l h s differ why
+
+found_room : (d e : Diagram) (v l h n : ℕ) → FindsOrPuts d e (parts v l h) n → NoRoom d v l h → ⊥
+found_room d e v l h n (inl f) none = none.new n f.0
+found_room d e v l h n (inr put) none = omega (arith, put.room, none.full)
+
+-- a node that is found, or for which there was room, is not without room
+pub tried_room : (d e : Diagram) (v l h : ℕ) (r : Result Node StoreStop) → IfOk r (λ n. FindsOrPuts d e (parts v l h) n.0) → OnOk r (NoRoom d v l h → ⊥)
+tried_room d e v l h (Ok n) puts = found_room d e v l h n.0 puts
+tried_room d e v l h (Err s) puts = tt

@@ -20,10 +20,10 @@ some_number m n e = cc
 
 -- the tables with one of them replaced
 pub table_at-same : (ts : List TableValue) (v : ℕ) (t : TableValue) → v < length ts → table_at (set ts v t) v ≡ t
-table_at-same ts v t h = get_or-set_same ts v t (record { entries = []; spare = 0 }) h
+table_at-same ts v t h = get_or-set_same ts v t (record { entries = []; spare = 0; places = [] }) h
 
 pub table_at-other : (ts : List TableValue) (v u : ℕ) (t : TableValue) → u ≢ v → table_at (set ts v t) u ≡ table_at ts u
-table_at-other ts v u t ne = get_or-set_other ts v u t (record { entries = []; spare = 0 }) ne
+table_at-other ts v u t ne = get_or-set_other ts v u t (record { entries = []; spare = 0; places = [] }) ne
 
 -- the tables find as before where one of them is replaced by one that does
 pub indexed_same : (s : List (Option Parts)) (ts : List TableValue) (v : ℕ) (t : TableValue) → v < length ts → SameFound (table_at ts v) t → AreIndexed s ts → AreIndexed s (set ts v t)

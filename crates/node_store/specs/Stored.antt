@@ -21,7 +21,7 @@ view_of a = record {
 
 -- the table of a variable
 abbrev pub table_at : List TableValue → ℕ → TableValue
-table_at ts v = slice_index_or ts v (record { entries = []; spare = 0 })
+table_at ts v = slice_index_or ts v (record { entries = []; spare = 0; places = [] })
 
 -- a table finds the node of these parts, and no other
 pub record Finds (slots : List (Option Parts)) (ts : List TableValue) (v low high n : ℕ) : Type 0 where

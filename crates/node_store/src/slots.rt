@@ -2,16 +2,17 @@
 //!
 //! Here the parts of a node mean nothing yet: children may be any numbers. `Store` adds that the
 //! nodes are those of a diagram.
-ghost use Rattle.std.specs.Prelude.{◌≡◌, ◌≢◌, ◌⊎◌, ℕ, ◌+◌, ◌<◌, ◌≤◌, OnOk, OnErr, IfOk, IfSome, IfNone, Some, None, [], ◌∷◌, true, false, length, option_map};
+ghost use Rattle.std.specs.Prelude.{◌≡◌, ◌≢◌, ◌⊎◌, ℕ, ◌+◌, ◌<◌, ◌≤◌, OnOk, OnErr, IfOk, IfErr, IfSome, IfNone, Some, None, [], ◌∷◌, true, false, length, option_map};
+ghost use Rattle.slab.specs.Slab.{HasRoomFor};
 ghost use Rattle.bit_lists.specs.Orders.{exchanged};
 ghost use Rattle.diagram_model.specs.Nodes.{parts_of};
 ghost use Rattle.diagram_model.specs.Stores.{held, requested, HasParts, IsHeld, IsLive, IsNew, IsSound, PutsNode};
-ghost use Rattle.node_store.specs.Makes.{FindsOrPuts};
+ghost use Rattle.node_store.specs.Makes.{FindsOrPuts, Refuses};
 ghost use Rattle.node_store.specs.Marks.{KeepsMarked};
 ghost use Rattle.node_store.specs.Slots.{AreNodesOf, IsSlotted, Takes, Rewrites, IsPast, IsNextHeld, IsLastHeld, LowersNone, HasNone, nodes_of, spare_of, parts};
 
 use crate::marks::Reached;
-use crate::node::Node;
+use crate::node::{Node, StoreStop};
 use crate::store::Store;
 use bit_lists::{Order, OutOfMemory};
 use diagram_model::Parts;
@@ -36,6 +37,21 @@ fn first_past(after: Option<Node>) -> u32
         Some(n) => n.0.saturating_add(1),
         None => FIRST,
     }
+}
+
+/// The key that a slab gives out next, once it has room for one more value.
+fn free_key(nodes: &mut Slab<Parts>) -> Result<usize, OutOfMemory>
+    ensures key { IfOk result (λ k. k ≡ nodes.new.vacant_key) }
+    ensures few { IfOk result (λ k. k < 4000000000) }
+    ensures room { OnOk result (HasRoomFor nodes.new 1) }
+    ensures kept { nodes.new.slots ≡ nodes.old.slots }
+{
+    nodes.reserve(1)?;
+    let key = nodes.vacant_key();
+    if key >= MOST_SLOTS {
+        return Err(OutOfMemory);
+    }
+    Ok(key)
 }
 
 /// Slots with their tables: at most `limit` nodes are held, and no two have the same parts.
@@ -354,41 +370,38 @@ impl Slots {
         Node(node)
     }
 
-    /// The held node of these parts, which is added where there is none. One search.
-    pub(crate) fn find_or_add(
-        &mut self,
-        var: u8,
-        low: Node,
-        high: Node,
-    ) -> Result<Node, OutOfMemory>
+    /// The held node of these parts, which is added where there is none. One search; room is asked for
+    /// only where the node is new.
+    pub(crate) fn find_or_add(&mut self, var: u8, low: Node, high: Node) -> Result<Node, StoreStop>
         requires var { var < length self.old.diagram.order }
-        requires spare { 1 ≤ spare_of self.old var }
-        requires room { held self.old.diagram < self.old.diagram.limit }
         ensures puts { IfOk result (λ n. FindsOrPuts self.old.diagram self.new.diagram (parts var low.0 high.0) n.0) }
         ensures order { self.new.diagram.order ≡ self.old.diagram.order }
         ensures limit { self.new.diagram.limit ≡ self.old.diagram.limit }
         ensures made { self.new.diagram.made ≡ self.old.diagram.made }
         ensures refused { OnErr result (self.new.diagram ≡ self.old.diagram) }
+        ensures stop { IfErr result (Refuses self.old.diagram (parts var low.0 high.0)) }
         ensures slotted { IsSlotted self.new.diagram }
     {
-        let key = self.nodes.vacant_key();
-        if key >= MOST_SLOTS {
-            return Err(OutOfMemory);
+        let end = self.tables[var as usize].seek(low.0, high.0);
+        if let Some(node) = end.node() {
+            return Ok(Node(node));
         }
-        let node = key as u32 + FIRST;
+        let held = self.nodes.len() as u32;
+        if held == self.limit {
+            return Err(StoreStop::Full { held });
+        }
+        let node = free_key(&mut self.nodes)? as u32 + FIRST;
         let table = &mut self.tables[var as usize];
-        match table.find_or_add(low.0, high.0, node) {
-            Some(found) => Ok(Node(found)),
-            None => {
-                self.nodes.insert_reserved(Parts {
-                    var,
-                    low: low.0,
-                    high: high.0,
-                });
-                self.past = self.past.max(node + 1);
-                Ok(Node(node))
-            }
-        }
+        let Ok(()) = table.add_at(end, low.0, high.0, node) else {
+            return Err(StoreStop::OutOfMemory);
+        };
+        self.nodes.insert_reserved(Parts {
+            var,
+            low: low.0,
+            high: high.0,
+        });
+        self.past = self.past.max(node + 1);
+        Ok(Node(node))
     }
 
     /// Counts a request for a node.

@@ -5,9 +5,8 @@ ghost use Rattle.bit_lists.specs.Orders.{has, place_in};
 ghost use Rattle.diagram_model.specs.Functions.{bit};
 ghost use Rattle.diagram_model.specs.Nodes.{parts_of, value, IsLiveIn, IsProper};
 ghost use Rattle.diagram_model.specs.Stores.{held, HasParts, IsLive, IsHeld, IsAbove, IsSound, Extends, KeepsFunctions, AddsOnly, IsChoice, NoRoom, IsNew, PutsNode, counted, requested, from};
-ghost use Rattle.node_store.specs.Makes.{FindsOrPuts, StopMeans};
+ghost use Rattle.node_store.specs.Makes.{FindsOrPuts, Refuses, StopMeans};
 ghost use Rattle.node_store.specs.Slots.{AreNodesOf, IsNextHeld, IsLastHeld, nodes_of, parts};
-ghost use Rattle.node_store.specs.declared.node.StoreStop.TheVariants as stops;
 
 use crate::node::{Node, StoreStop};
 use crate::slots::Slots;
@@ -289,38 +288,20 @@ impl Store {
         if low.0 == high.0 {
             return Ok(low);
         }
-        let held = self.held();
-        if held == self.limit() {
-            if let Some(node) = self.find(var, low, high) {
-                return Ok(node);
-            }
-            return Err(StoreStop::Full { held });
-        }
         self.find_or_add(var, low, high)
-    }
-
-    /// The held node of these parts.
-    fn find(&self, var: u8, low: Node, high: Node) -> Option<Node>
-        requires { has self.now.order var ≡ true }
-        ensures found { IfSome result (λ n. parts_of self.now.slots n.0 ≡ Some (parts var low.0 high.0)) }
-        ensures absent { IfNone result (IsNew self.now (parts var low.0 high.0)) }
-    {
-        self.slots.find(var, low, high)
     }
 
     /// The held node of these parts, which is added where there is none.
     fn find_or_add(&mut self, var: u8, low: Node, high: Node) -> Result<Node, StoreStop>
         requires var { has self.old.order var ≡ true }
         requires proper { IsProper self.old.slots self.old.order (parts var low.0 high.0) }
-        requires room { held self.old < self.old.limit }
         ensures puts { IfOk result (λ n. FindsOrPuts self.old self.new (parts var low.0 high.0) n.0) }
         ensures rest { OnOk result ((self.new.order ≡ self.old.order) × (self.new.limit ≡ self.old.limit)) }
         ensures made { self.new.made ≡ self.old.made }
         ensures sound { IsSound self.new }
         ensures refused { OnErr result (self.new ≡ self.old) }
-        ensures stop { IfErr result (λ e. e ≡ stops.OutOfMemory) }
+        ensures stop { IfErr result (Refuses self.old (parts var low.0 high.0)) }
     {
-        self.slots.reserve(var, 1)?;
         let node = self.slots.find_or_add(var, low, high)?;
         Ok(node)
     }

@@ -15,7 +15,7 @@ use Rattle.circuit_model.proofs.VectorLemmas.{applied-same}
 use Rattle.circuit_model.proofs.WorkingLemmas.{IsHalved-halved}
 use Rattle.diagram_model.specs.Functions.{Assignment, Function, bit}
 use Rattle.diagram_model.specs.Stores.{Diagram, IsSound, function_of}
-use Rattle.diagram_ops.specs.Diagrams.{Shared}
+use Rattle.diagram_ops.specs.Diagrams.{StoreAndCache}
 use Rattle.diagram_ops.specs.Made.{IsPrefixOfSome}
 use Rattle.slice_vec.specs.Growing.{Grows}
 use Rattle.slice_vec.proofs.Growing.{grows_wider}
@@ -157,7 +157,7 @@ work_same d q w g s sound shown is =
 gate_wanted : (d : Diagram) (q : SliceQuad) (w : Scaled) (g : Gate) (s : Step) → IsSound d → Shows d q w → IsStepOf (length d.order) State g s → (p : Function) → IsWork d s q p → IsGateWork d q g w.entries p
 gate_wanted d q w g s sound shown is p h = subst (λ (fs : List Function). IsPrefixOfSome d.order fs p) (work_same d q w g s sound shown is) h
 
-pub gate_grows : (u v : Shared) (q : SliceQuad) (w : Scaled) (g : Gate) (s : Step) → IsSound u.store → Shows u.store q w → IsStepOf (length u.store.order) State g s → Grows u (IsWork u.store s q) v → Grows u (IsGateWork u.store q g w.entries) v
+pub gate_grows : (u v : StoreAndCache) (q : SliceQuad) (w : Scaled) (g : Gate) (s : Step) → IsSound u.store → Shows u.store q w → IsStepOf (length u.store.order) State g s → Grows u (IsWork u.store s q) v → Grows u (IsGateWork u.store q g w.entries) v
 gate_grows u v q w g s sound shown is k = grows_wider u v (IsWork u.store s q) (IsGateWork u.store q g w.entries) (gate_wanted u.store q w g s sound shown is) k
 
 pub gate_stops : (d e : Diagram) (q : SliceQuad) (w : Scaled) (g : Gate) (s : Step) → IsSound d → Shows d q w → IsStepOf (length d.order) State g s → (why : QuadStop) → QuadStopIs e (IsWork d s q) why → QuadStopIs e (IsGateWork d q g w.entries) why

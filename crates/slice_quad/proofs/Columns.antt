@@ -3,7 +3,7 @@ use Rattle.std.proofs.Common.{◌≡◌, ℕ, ◌+◌, ◌<◌, ◌≤◌, Bool,
 use Rattle.node_store.specs.declared.node.StoreStop.{StoreStop}
 use Rattle.diagram_model.specs.Functions.{Function, IsPrefixOf}
 use Rattle.diagram_model.specs.Stores.{function_of}
-use Rattle.diagram_ops.specs.Diagrams.{Shared, IsConsistent}
+use Rattle.diagram_ops.specs.Diagrams.{StoreAndCache, IsConsistent}
 use Rattle.diagram_ops.specs.Made.{Property, StopIs, IsPrefixOfSome}
 use Rattle.gate_set.specs.declared.entry.Entry.{Entry}
 use Rattle.gate_set.specs.declared.entry.Entry.TheVariants.{Zero, Omega}
@@ -25,7 +25,7 @@ use Rattle.slice_quad.specs.Column.{where_negated, column_target, column_term, c
 use Rattle.slice_quad.proofs.Gates.{nodes_on}
 
 -- what is given of a column and of the coordinates that it is applied to
-pub record IsGiven (u : Shared) (g : Gate) (f : Four) (os zs : List ℕ) : Type 0 where
+pub record IsGiven (u : StoreAndCache) (g : Gate) (f : Four) (os zs : List ℕ) : Type 0 where
   pub sound : IsConsistent u
   pub nodes : AreItsNodes u.store g
   pub from : AreIntegers u.store (length os) f
@@ -35,18 +35,18 @@ pub record IsGiven (u : Shared) (g : Gate) (f : Four) (os zs : List ℕ) : Type 
   pub zero_width : length zs ≡ length os
 
 -- the integer that an entry brings
-pub brought_stands : (u v : Shared) (Is : Property) (g : Gate) (f : Four) (os zs : List ℕ) (e : Entry) (z : Coord) → IsGiven u g f os zs → Grows u Is v → StandsIn v.store (nodes_brought e z f zs)
+pub brought_stands : (u v : StoreAndCache) (Is : Property) (g : Gate) (f : Four) (os zs : List ℕ) (e : Entry) (z : Coord) → IsGiven u g f os zs → Grows u Is v → StandsIn v.store (nodes_brought e z f zs)
 brought_stands u v Is g f os zs Zero z h k = stands_on u v Is zs k h.zero
 brought_stands u v Is g f os zs (Omega j) z h k = stands_on u v Is (nodes_of f (turn j z).from) k (h.from.stands (turn j z).from)
 
 -- what an entry brings, as bits of the start
-pub brought_digits : (u v : Shared) (Is : Property) (g : Gate) (f : Four) (os zs : List ℕ) (e : Entry) (z : Coord) → IsGiven u g f os zs → Grows u Is v → digits_of v.store (nodes_brought e z f zs) ≡ entry_digits e z (digits_in u.store f)
+pub brought_digits : (u v : StoreAndCache) (Is : Property) (g : Gate) (f : Four) (os zs : List ℕ) (e : Entry) (z : Coord) → IsGiven u g f os zs → Grows u Is v → digits_of v.store (nodes_brought e z f zs) ≡ entry_digits e z (digits_in u.store f)
 unfolding entry_digits digits_in
 brought_digits u v Is g f os zs Zero z h k = digits_on u v Is zs h.sound k h.zero ∙ h.zeros
 brought_digits u v Is g f os zs (Omega j) z h k = digits_on u v Is (nodes_of f (turn j z).from) h.sound k (h.from.stands (turn j z).from)
 
 -- it is as wide as the others
-pub brought_width : (u : Shared) (g : Gate) (f : Four) (os zs : List ℕ) (e : Entry) (z : Coord) → IsGiven u g f os zs → length (nodes_brought e z f zs) ≡ length os
+pub brought_width : (u : StoreAndCache) (g : Gate) (f : Four) (os zs : List ℕ) (e : Entry) (z : Coord) → IsGiven u g f os zs → length (nodes_brought e z f zs) ≡ length os
 brought_width u g f os zs Zero z h = h.zero_width
 brought_width u g f os zs (Omega j) z h = h.from.width (turn j z).from
 
@@ -95,7 +95,7 @@ module _ (vs : List ℕ) (w : ℕ) (m : Mix) (low high : Entry) (f : Coordinates
       (some_later vs (column_negates m low high z) tail p h))
 
 -- the four calls
-module _ (u : Shared) (g : Gate) (c : Column) (f : Four) (os zs : List ℕ) (z : Coord) (h : IsGiven u g f os zs) where
+module _ (u : StoreAndCache) (g : Gate) (c : Column) (f : Four) (os zs : List ℕ) (z : Coord) (h : IsGiven u g f os zs) where
   abbrev Is : Property
   Is = IsColumn u.store g.target c f os z
 
@@ -124,14 +124,14 @@ module _ (u : Shared) (g : Gate) (c : Column) (f : Four) (os zs : List ℕ) (z :
   pub sign_same : (low high : Bool) → low ≡ entry_negates c.low z → high ≡ entry_negates c.high z → where_negated (mix_of g.target) low high ≡ sign_of
   sign_same low high el eh = ap (λ b. where_negated (mix_of g.target) b high) el ∙ ap (λ b. where_negated (mix_of g.target) (entry_negates c.low z) b) eh
 
-  pub sign_grows : (v : Shared) (s : Function) → s ≡ sign_of → Grows u (IsPrefixOf u.store.order s) v → Grows u Is v
+  pub sign_grows : (v : StoreAndCache) (s : Function) → s ≡ sign_of → Grows u (IsPrefixOf u.store.order s) v → Grows u Is v
   sign_grows v s e k = grows_call u u v Is s sign_of (grows_none u Is h.sound) k e sign_wanted
 
-  pub sign_stops : (v : Shared) (s : Function) → s ≡ sign_of → (why : StoreStop) → StopIs v.store (IsPrefixOf u.store.order s) why → StopIs v.store Is why
+  pub sign_stops : (v : StoreAndCache) (s : Function) → s ≡ sign_of → (why : StoreStop) → StopIs v.store (IsPrefixOf u.store.order s) why → StopIs v.store Is why
   sign_stops v s e why stop = stop_call u u v Is s sign_of (grows_none u Is h.sound) e sign_wanted why stop
 
   -- by the target
-  target_same : (v : Shared) (ls hs : List ℕ) → Grows u Is v → ls ≡ nodes_brought c.low z f zs → hs ≡ nodes_brought c.high z f zs → chosen (function_of v.store g.is_set.0) (digits_of v.store hs) (digits_of v.store ls) ≡ target_of
+  target_same : (v : StoreAndCache) (ls hs : List ℕ) → Grows u Is v → ls ≡ nodes_brought c.low z f zs → hs ≡ nodes_brought c.high z f zs → chosen (function_of v.store g.is_set.0) (digits_of v.store hs) (digits_of v.store ls) ≡ target_of
   unfolding column_target
   target_same v ls hs k el eh =
       let n = nodes_on u v Is g h.sound k h.nodes in
@@ -145,56 +145,56 @@ module _ (u : Shared) (g : Gate) (c : Column) (f : Four) (os zs : List ℕ) (z :
       let b : length ls ≡ length os = ap length el ∙ brought_width u g f os zs c.low z h in
       omega (arith, a, b)
 
-  pub target_grows : (v w : Shared) (ls hs : List ℕ) → Grows u Is v → ls ≡ nodes_brought c.low z f zs → hs ≡ nodes_brought c.high z f zs → Grows v (InChosen v.store g.is_set.0 hs ls) w → Grows u Is w
+  pub target_grows : (v w : StoreAndCache) (ls hs : List ℕ) → Grows u Is v → ls ≡ nodes_brought c.low z f zs → hs ≡ nodes_brought c.high z f zs → Grows v (InChosen v.store g.is_set.0 hs ls) w → Grows u Is w
   target_grows v w ls hs k el eh k2 =
       let s = chosen (function_of v.store g.is_set.0) (digits_of v.store hs) (digits_of v.store ls) in
       grows_calls u v w Is (first_bits (max (length hs) (length ls)) s) (first_bits (length os) target_of) k k2 (bits_same (max (length hs) (length ls)) (length os) s target_of (target_width ls hs el eh) (target_same v ls hs k el eh)) target_wanted
 
-  pub target_stops : (v w : Shared) (ls hs : List ℕ) → Grows u Is v → ls ≡ nodes_brought c.low z f zs → hs ≡ nodes_brought c.high z f zs → (why : StoreStop) → StopIs w.store (InChosen v.store g.is_set.0 hs ls) why → StopIs w.store Is why
+  pub target_stops : (v w : StoreAndCache) (ls hs : List ℕ) → Grows u Is v → ls ≡ nodes_brought c.low z f zs → hs ≡ nodes_brought c.high z f zs → (why : StoreStop) → StopIs w.store (InChosen v.store g.is_set.0 hs ls) why → StopIs w.store Is why
   target_stops v w ls hs k el eh why stop =
       let s = chosen (function_of v.store g.is_set.0) (digits_of v.store hs) (digits_of v.store ls) in
       stop_calls u v w Is (first_bits (max (length hs) (length ls)) s) (first_bits (length os) target_of) k (bits_same (max (length hs) (length ls)) (length os) s target_of (target_width ls hs el eh) (target_same v ls hs k el eh)) target_wanted why stop
 
-  pub target_is : (v w : Shared) (ls hs ts : List ℕ) → Grows u Is v → ls ≡ nodes_brought c.low z f zs → hs ≡ nodes_brought c.high z f zs → IsChosen v.store w.store g.is_set.0 hs ls ts → IsOf w.store (length os) target_of ts
+  pub target_is : (v w : StoreAndCache) (ls hs ts : List ℕ) → Grows u Is v → ls ≡ nodes_brought c.low z f zs → hs ≡ nodes_brought c.high z f zs → IsChosen v.store w.store g.is_set.0 hs ls ts → IsOf w.store (length os) target_of ts
   target_is v w ls hs ts k el eh is = record { stands = is.stands; width = is.width ∙ target_width ls hs el eh; digits = is.digits ∙ target_same v ls hs k el eh }
 
   -- by the controls
-  term_same : (v : Shared) (ts : List ℕ) → Grows u Is v → IsOf v.store (length os) target_of ts → chosen (function_of v.store g.all.0) (digits_of v.store ts) (digits_of v.store os) ≡ term_of
+  term_same : (v : StoreAndCache) (ts : List ℕ) → Grows u Is v → IsOf v.store (length os) target_of ts → chosen (function_of v.store g.all.0) (digits_of v.store ts) (digits_of v.store os) ≡ term_of
   unfolding column_term
   term_same v ts k is =
       let n = nodes_on u v Is g h.sound k h.nodes in
       chosen_same (function_of v.store g.all.0) (all_true (mix_of g.target).controls) (digits_of v.store ts) (digits_of v.store os) target_of (digits_of u.store os) n.all.is is.digits (digits_on u v Is os h.sound k h.old)
 
-  term_width : (v : Shared) (ts : List ℕ) → IsOf v.store (length os) target_of ts → max (length ts) (length os) ≡ length os
+  term_width : (v : StoreAndCache) (ts : List ℕ) → IsOf v.store (length os) target_of ts → max (length ts) (length os) ≡ length os
   term_width v ts is = let e = is.width in omega (arith, e)
 
-  pub term_grows : (v w : Shared) (ts : List ℕ) → Grows u Is v → IsOf v.store (length os) target_of ts → Grows v (InChosen v.store g.all.0 ts os) w → Grows u Is w
+  pub term_grows : (v w : StoreAndCache) (ts : List ℕ) → Grows u Is v → IsOf v.store (length os) target_of ts → Grows v (InChosen v.store g.all.0 ts os) w → Grows u Is w
   term_grows v w ts k is k2 =
       let s = chosen (function_of v.store g.all.0) (digits_of v.store ts) (digits_of v.store os) in
       grows_calls u v w Is (first_bits (max (length ts) (length os)) s) (first_bits (length os) term_of) k k2 (bits_same (max (length ts) (length os)) (length os) s term_of (term_width v ts is) (term_same v ts k is)) term_wanted
 
-  pub term_stops : (v w : Shared) (ts : List ℕ) → Grows u Is v → IsOf v.store (length os) target_of ts → (why : StoreStop) → StopIs w.store (InChosen v.store g.all.0 ts os) why → StopIs w.store Is why
+  pub term_stops : (v w : StoreAndCache) (ts : List ℕ) → Grows u Is v → IsOf v.store (length os) target_of ts → (why : StoreStop) → StopIs w.store (InChosen v.store g.all.0 ts os) why → StopIs w.store Is why
   term_stops v w ts k is why stop =
       let s = chosen (function_of v.store g.all.0) (digits_of v.store ts) (digits_of v.store os) in
       stop_calls u v w Is (first_bits (max (length ts) (length os)) s) (first_bits (length os) term_of) k (bits_same (max (length ts) (length os)) (length os) s term_of (term_width v ts is) (term_same v ts k is)) term_wanted why stop
 
-  pub term_is : (v w : Shared) (ts rs : List ℕ) → Grows u Is v → IsOf v.store (length os) target_of ts → IsChosen v.store w.store g.all.0 ts os rs → IsOf w.store (length os) term_of rs
+  pub term_is : (v w : StoreAndCache) (ts rs : List ℕ) → Grows u Is v → IsOf v.store (length os) target_of ts → IsChosen v.store w.store g.all.0 ts os rs → IsOf w.store (length os) term_of rs
   term_is v w ts rs k is made = record { stands = made.stands; width = made.width ∙ term_width v ts is; digits = made.digits ∙ term_same v ts k is }
 
   -- with its sign
-  negation_list : (v : Shared) (n : ℕ) (rs : List ℕ) → Denotes v.store n sign_of → IsOf v.store (length os) term_of rs → negation_functions (length rs + 1) (function_of v.store n) (digits_of v.store rs) ≡ negation_functions (length os + 1) sign_of term_of
+  negation_list : (v : StoreAndCache) (n : ℕ) (rs : List ℕ) → Denotes v.store n sign_of → IsOf v.store (length os) term_of rs → negation_functions (length rs + 1) (function_of v.store n) (digits_of v.store rs) ≡ negation_functions (length os + 1) sign_of term_of
   negation_list v n rs sign is =
       negation_same (length rs + 1) (length os + 1) (function_of v.store n) sign_of (digits_of v.store rs) term_of (ap (λ k. k + 1) is.width) sign.is is.digits
 
-  pub negation_grows : (v w : Shared) (n : ℕ) (rs : List ℕ) → Grows u Is v → Denotes v.store n sign_of → IsOf v.store (length os) term_of rs → Grows v (InNegation v.store n rs) w → Grows u Is w
+  pub negation_grows : (v w : StoreAndCache) (n : ℕ) (rs : List ℕ) → Grows u Is v → Denotes v.store n sign_of → IsOf v.store (length os) term_of rs → Grows v (InNegation v.store n rs) w → Grows u Is w
   negation_grows v w n rs k sign is k2 =
       grows_calls u v w Is (negation_functions (length rs + 1) (function_of v.store n) (digits_of v.store rs)) (negation_functions (length os + 1) sign_of term_of) k k2 (negation_list v n rs sign is) negation_wanted
 
-  pub negation_stops : (v w : Shared) (n : ℕ) (rs : List ℕ) → Grows u Is v → Denotes v.store n sign_of → IsOf v.store (length os) term_of rs → (why : StoreStop) → StopIs w.store (InNegation v.store n rs) why → StopIs w.store Is why
+  pub negation_stops : (v w : StoreAndCache) (n : ℕ) (rs : List ℕ) → Grows u Is v → Denotes v.store n sign_of → IsOf v.store (length os) term_of rs → (why : StoreStop) → StopIs w.store (InNegation v.store n rs) why → StopIs w.store Is why
   negation_stops v w n rs k sign is why stop =
       stop_calls u v w Is (negation_functions (length rs + 1) (function_of v.store n) (digits_of v.store rs)) (negation_functions (length os + 1) sign_of term_of) k (negation_list v n rs sign is) negation_wanted why stop
 
-  pub negation_is : (v w : Shared) (n : ℕ) (rs ps : List ℕ) → Denotes v.store n sign_of → IsOf v.store (length os) term_of rs → IsNegation v.store w.store n rs ps → IsOf w.store (length os + 1) (column_signed (mix_of g.target) c.low c.high (digits_in u.store f) (digits_of u.store os) z) ps
+  pub negation_is : (v w : StoreAndCache) (n : ℕ) (rs ps : List ℕ) → Denotes v.store n sign_of → IsOf v.store (length os) term_of rs → IsNegation v.store w.store n rs ps → IsOf w.store (length os + 1) (column_signed (mix_of g.target) c.low c.high (digits_in u.store f) (digits_of u.store os) z) ps
   unfolding column_signed
   negation_is v w n rs ps sign is made = record {
     stands = made.stands;

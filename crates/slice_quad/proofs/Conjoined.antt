@@ -8,7 +8,7 @@ use Rattle.node_store.specs.declared.node.StoreStop.{StoreStop}
 use Rattle.diagram_model.specs.Functions.{Function, IsPrefixOf}
 use Rattle.diagram_model.specs.Stores.{IsLive, function_of}
 use Rattle.diagram_model.proofs.Growing.{function_on}
-use Rattle.diagram_ops.specs.Diagrams.{Shared, IsConsistent, variable_of}
+use Rattle.diagram_ops.specs.Diagrams.{StoreAndCache, IsConsistent, variable_of}
 use Rattle.diagram_ops.specs.Made.{Property, StopIs, IsPrefixOfSome}
 use Rattle.slice_vec.specs.Growing.{Grows, Denotes}
 use Rattle.slice_vec.proofs.Growing.{grows_none, grows_calls, stop_calls, some_left, some_right, some_first, some_later, all_of_two, denotes_as, lists_same}
@@ -92,12 +92,12 @@ two_in vs cs ds c es e p h =
     (λ q k. some_right vs (map (λ w. λ x. x w) (ds ++ c ∷ es)) (conjunctions [] (ds ++ c ∷ es)) q (conj_in vs [] ds c es q k)) p h)
 
 -- the loop
-pub record Conjoins (u : Shared) (controls : List Bool) (v : Shared) (n i : ℕ) : Type 0 where
+pub record Conjoins (u : StoreAndCache) (controls : List Bool) (v : StoreAndCache) (n i : ℕ) : Type 0 where
   pub grows : Grows u (Is u.store.order (true_places 0 controls)) v
   pub node : Denotes v.store n (all_true (true_places 0 (take i controls)))
 
 -- at the start
-pub conjoins_none : (u : Shared) (controls : List Bool) → IsConsistent u → Conjoins u controls u 1 0
+pub conjoins_none : (u : StoreAndCache) (controls : List Bool) → IsConsistent u → Conjoins u controls u 1 0
 unfolding all_true
 conjoins_none u controls s = record {
   grows = grows_none u (Is u.store.order (true_places 0 controls)) s;
@@ -105,7 +105,7 @@ conjoins_none u controls s = record {
 }
 
 -- a control is joined to those before it
-module _ (u v : Shared) (controls : List Bool) (n i : ℕ) (h : Conjoins u controls v n i) (on : get_or controls i false ≡ true) where
+module _ (u v : StoreAndCache) (controls : List Bool) (n i : ℕ) (h : Conjoins u controls v n i) (on : get_or controls i false ≡ true) where
   abbrev before : List ℕ
   before = true_places 0 (take i controls)
 
@@ -124,38 +124,38 @@ module _ (u v : Shared) (controls : List Bool) (n i : ℕ) (h : Conjoins u contr
   same : (variable_of i ∷ with_at v.store n i ∷ []) ≡ (variable_of i ∷ all_true (before ++ i ∷ []) ∷ [])
   same = lists_same (variable_of i) (with_at v.store n i) (variable_of i) (all_true (before ++ i ∷ [])) refl with_is
 
-  pub control_grows : (w : Shared) → Grows v (IsPrefixOfSome v.store.order (variable_of i ∷ with_at v.store n i ∷ [])) w → Grows u (Is u.store.order (true_places 0 controls)) w
+  pub control_grows : (w : StoreAndCache) → Grows v (IsPrefixOfSome v.store.order (variable_of i ∷ with_at v.store n i ∷ [])) w → Grows u (Is u.store.order (true_places 0 controls)) w
   control_grows w g =
       grows_calls u v w (Is u.store.order (true_places 0 controls)) (variable_of i ∷ with_at v.store n i ∷ []) (variable_of i ∷ all_true (before ++ i ∷ []) ∷ []) h.grows g same
       (two_in u.store.order (true_places 0 controls) before i (true_places (suc i) (drop (suc i) controls)) whole_is)
 
-  pub control_stops : (w : Shared) (why : StoreStop) → StopIs w.store (IsPrefixOfSome v.store.order (variable_of i ∷ with_at v.store n i ∷ [])) why → StopIs w.store (Is u.store.order (true_places 0 controls)) why
+  pub control_stops : (w : StoreAndCache) (why : StoreStop) → StopIs w.store (IsPrefixOfSome v.store.order (variable_of i ∷ with_at v.store n i ∷ [])) why → StopIs w.store (Is u.store.order (true_places 0 controls)) why
   control_stops w why stop =
       stop_calls u v w (Is u.store.order (true_places 0 controls)) (variable_of i ∷ with_at v.store n i ∷ []) (variable_of i ∷ all_true (before ++ i ∷ []) ∷ []) h.grows same
       (two_in u.store.order (true_places 0 controls) before i (true_places (suc i) (drop (suc i) controls)) whole_is) why stop
 
-  conjoined : (w : Shared) (m : ℕ) → Grows v (IsPrefixOfSome v.store.order (variable_of i ∷ with_at v.store n i ∷ [])) w → Denotes w.store m (with_at v.store n i) → Conjoins u controls w m (suc i)
+  conjoined : (w : StoreAndCache) (m : ℕ) → Grows v (IsPrefixOfSome v.store.order (variable_of i ∷ with_at v.store n i ∷ [])) w → Denotes w.store m (with_at v.store n i) → Conjoins u controls w m (suc i)
   conjoined w m g is = record {
     grows = control_grows w g;
     node = denotes_as w.store m (with_at v.store n i) (all_true (true_places 0 (take (suc i) controls))) (with_is ∙ ap all_true (sym after_is)) is;
   }
 
-  pub conjoins_more : (w : Shared) (m : ℕ) → Grows v (IsPrefixOfSome v.store.order (variable_of i ∷ with_at v.store n i ∷ [])) w → Denotes w.store m (with_at v.store n i) → (j : ℕ) → j ≡ suc i → Conjoins u controls w m j
+  pub conjoins_more : (w : StoreAndCache) (m : ℕ) → Grows v (IsPrefixOfSome v.store.order (variable_of i ∷ with_at v.store n i ∷ [])) w → Denotes w.store m (with_at v.store n i) → (j : ℕ) → j ≡ suc i → Conjoins u controls w m j
   conjoins_more w m g is j e = rw e (conjoined w m g is)
 
 -- a place that is no control
-skipped : (u v : Shared) (controls : List Bool) (n i : ℕ) → Conjoins u controls v n i → get_or controls i false ≡ false → Conjoins u controls v n (suc i)
+skipped : (u v : StoreAndCache) (controls : List Bool) (n i : ℕ) → Conjoins u controls v n i → get_or controls i false ≡ false → Conjoins u controls v n (suc i)
 skipped u v controls n i h off = record {
   grows = h.grows;
   node = denotes_as v.store n (all_true (true_places 0 (take i controls))) (all_true (true_places 0 (take (suc i) controls))) (ap all_true (sym (places_off 0 i controls off))) h.node;
 }
 
 -- the same at the next place
-pub conjoins_skip : (u v : Shared) (controls : List Bool) (n i : ℕ) → Conjoins u controls v n i → get_or controls i false ≡ false → (j : ℕ) → j ≡ suc i → Conjoins u controls v n j
+pub conjoins_skip : (u v : StoreAndCache) (controls : List Bool) (n i : ℕ) → Conjoins u controls v n i → get_or controls i false ≡ false → (j : ℕ) → j ≡ suc i → Conjoins u controls v n j
 conjoins_skip u v controls n i h off j e = rw e (skipped u v controls n i h off)
 
 -- the same by other names
-pub conjoins_as : (u v w : Shared) (controls : List Bool) (n m i : ℕ) → w ≡ v → m ≡ n → Conjoins u controls v n i → Conjoins u controls w m i
+pub conjoins_as : (u v w : StoreAndCache) (controls : List Bool) (n m i : ℕ) → w ≡ v → m ≡ n → Conjoins u controls v n i → Conjoins u controls w m i
 conjoins_as u v w controls n m i ev en h = rw (ev, en) h
 
 -- all of a list
@@ -166,11 +166,11 @@ take_whole (suc i) [] le = refl
 take_whole (suc i) (b ∷ x) le = ap (λ (l : List Bool). b ∷ l) (take_whole i x (omega (arith, le)))
 
 -- at the end
-pub conjoins_all : (u v : Shared) (controls : List Bool) (n i : ℕ) → Conjoins u controls v n i → length controls ≤ i → Denotes v.store n (all_true (true_places 0 controls))
+pub conjoins_all : (u v : StoreAndCache) (controls : List Bool) (n i : ℕ) → Conjoins u controls v n i → length controls ≤ i → Denotes v.store n (all_true (true_places 0 controls))
 conjoins_all u v controls n i h le = denotes_as v.store n (all_true (true_places 0 (take i controls))) (all_true (true_places 0 controls)) (ap (λ (l : List Bool). all_true (true_places 0 l)) (take_whole i controls le)) h.node
 
 -- a control beside the others
-pub both_on : (v e : Shared) (Is : Property) (n m i : ℕ) → IsConsistent v → Grows v Is e → IsLive v.store n → function_of e.store m ≡ variable_of i → both_at e.store n m ≡ with_at v.store n i
+pub both_on : (v e : StoreAndCache) (Is : Property) (n m i : ℕ) → IsConsistent v → Grows v Is e → IsLive v.store n → function_of e.store m ≡ variable_of i → both_at e.store n m ≡ with_at v.store n i
 unfolding variable_of
 both_on v e Is n m i s g live is =
     ap (λ (f : Function). λ x. f x && function_of e.store m x) (function_on v.store e.store n s.store g.sound.store g.extends live)

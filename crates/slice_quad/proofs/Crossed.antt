@@ -4,7 +4,7 @@ use Rattle.std.specs.Prelude.{flat_map}
 use Rattle.node_store.specs.declared.node.StoreStop.{StoreStop}
 use Rattle.diagram_model.specs.Functions.{Function}
 use Rattle.diagram_model.specs.Stores.{function_of}
-use Rattle.diagram_ops.specs.Diagrams.{Shared, IsConsistent, variable_of}
+use Rattle.diagram_ops.specs.Diagrams.{StoreAndCache, IsConsistent, variable_of}
 use Rattle.diagram_ops.specs.Made.{Property, StopIs, IsPrefixOfSome}
 use Rattle.slice_vec.specs.Digits.{Digits, chosen, fixed}
 use Rattle.slice_vec.specs.Growing.{Grows, Denotes}
@@ -66,14 +66,14 @@ last_is : (e : Exchange) (A : Digits) → chosen (all_true e.controls) (by_first
 unfolding exchange_digits
 last_is e A = refl
 
-module _ (u v : Shared) (Is : Property) (k : Grows u Is v) (m n : ℕ) (s r : Digits) (em : m ≡ n) (es : s ≡ r) (wanted : (p : Function) → IsPrefixOfSome u.store.order (first_bits n r) p → Is p) where
-  bits_grows : (w : Shared) → Grows v (IsPrefixOfSome v.store.order (first_bits m s)) w → Grows u Is w
+module _ (u v : StoreAndCache) (Is : Property) (k : Grows u Is v) (m n : ℕ) (s r : Digits) (em : m ≡ n) (es : s ≡ r) (wanted : (p : Function) → IsPrefixOfSome u.store.order (first_bits n r) p → Is p) where
+  bits_grows : (w : StoreAndCache) → Grows v (IsPrefixOfSome v.store.order (first_bits m s)) w → Grows u Is w
   bits_grows w g = grows_calls u v w Is (first_bits m s) (first_bits n r) k g (lists_same m n s r em es) wanted
 
-  bits_stops : (w : Shared) (why : StoreStop) → StopIs w.store (IsPrefixOfSome v.store.order (first_bits m s)) why → StopIs w.store Is why
+  bits_stops : (w : StoreAndCache) (why : StoreStop) → StopIs w.store (IsPrefixOfSome v.store.order (first_bits m s)) why → StopIs w.store Is why
   bits_stops w why stop = stop_calls u v w Is (first_bits m s) (first_bits n r) k (lists_same m n s r em es) wanted why stop
 
-module _ (u : Shared) (e : Exchange) (xs : List ℕ) (s : IsConsistent u) (hx : StandsIn u.store xs) (v : Shared) (k : Grows u (InExchange u.store e xs) v) where
+module _ (u : StoreAndCache) (e : Exchange) (xs : List ℕ) (s : IsConsistent u) (hx : StandsIn u.store xs) (v : StoreAndCache) (k : Grows u (InExchange u.store e xs) v) where
   abbrev A : Digits
   A = digits_of u.store xs
 
@@ -90,13 +90,13 @@ module _ (u : Shared) (e : Exchange) (xs : List ℕ) (s : IsConsistent u) (hx : 
   fix_wanted true p h = high_wanted u.store.order W e A p h
   fix_wanted false p h = low_wanted u.store.order W e A p h
 
-  pub fix_grows : (b : Bool) (w : Shared) → Grows v (InFixed v.store e.first b xs) w → Grows u Is w
+  pub fix_grows : (b : Bool) (w : StoreAndCache) → Grows v (InFixed v.store e.first b xs) w → Grows u Is w
   fix_grows b w g = bits_grows u v Is k W W (fixed e.first b (digits_of v.store xs)) (fixed e.first b A) refl (ap (fixed e.first b) x_of.digits) (fix_wanted b) w g
 
-  pub fix_stops : (b : Bool) (w : Shared) (why : StoreStop) → StopIs w.store (InFixed v.store e.first b xs) why → StopIs w.store Is why
+  pub fix_stops : (b : Bool) (w : StoreAndCache) (why : StoreStop) → StopIs w.store (InFixed v.store e.first b xs) why → StopIs w.store Is why
   fix_stops b w why stop = bits_stops u v Is k W W (fixed e.first b (digits_of v.store xs)) (fixed e.first b A) refl (ap (fixed e.first b) x_of.digits) (fix_wanted b) w why stop
 
-  pub fix_of : (b : Bool) (w : Shared) (ns : List ℕ) → IsFixed v.store w.store e.first b xs ns → IsOf w.store W (fixed e.first b A) ns
+  pub fix_of : (b : Bool) (w : StoreAndCache) (ns : List ℕ) → IsFixed v.store w.store e.first b xs ns → IsOf w.store W (fixed e.first b A) ns
   fix_of b w ns h = record { stands = h.stands; width = h.width; digits = h.digits ∙ ap (fixed e.first b) x_of.digits }
 
   second_wanted : (b : Bool) (p : Function) → IsPrefixOfSome u.store.order (first_bits W (by_second e A b)) p → Is p
@@ -115,13 +115,13 @@ module _ (u : Shared) (e : Exchange) (xs : List ℕ) (s : IsConsistent u) (hx : 
     wide : max (length ys) (length zs) ≡ W
     wide = omega (arith, oy.width, oz.width)
 
-    pub merge_grows : (w : Shared) → Grows v (InMerged v.store e.second b ys zs) w → Grows u Is w
+    pub merge_grows : (w : StoreAndCache) → Grows v (InMerged v.store e.second b ys zs) w → Grows u Is w
     merge_grows w g = bits_grows u v Is k (max (length ys) (length zs)) W Met (by_second e A b) wide met (second_wanted b) w g
 
-    pub merge_stops : (w : Shared) (why : StoreStop) → StopIs w.store (InMerged v.store e.second b ys zs) why → StopIs w.store Is why
+    pub merge_stops : (w : StoreAndCache) (why : StoreStop) → StopIs w.store (InMerged v.store e.second b ys zs) why → StopIs w.store Is why
     merge_stops w why stop = bits_stops u v Is k (max (length ys) (length zs)) W Met (by_second e A b) wide met (second_wanted b) w why stop
 
-    pub merge_of : (w : Shared) (ns : List ℕ) → IsMerged v.store w.store e.second b ys zs ns → IsOf w.store W (by_second e A b) ns
+    pub merge_of : (w : StoreAndCache) (ns : List ℕ) → IsMerged v.store w.store e.second b ys zs ns → IsOf w.store W (by_second e A b) ns
     merge_of w ns h = record { stands = h.stands; width = h.width ∙ wide; digits = h.digits ∙ met }
 
   -- a choice among the bits of the definition
@@ -135,31 +135,31 @@ module _ (u : Shared) (e : Exchange) (xs : List ℕ) (s : IsConsistent u) (hx : 
     wide_too : max (length ys) (length zs) ≡ W
     wide_too = omega (arith, oy.width, oz.width)
 
-    choice_grows : (w : Shared) → Grows v (InChosen v.store n ys zs) w → Grows u Is w
+    choice_grows : (w : StoreAndCache) → Grows v (InChosen v.store n ys zs) w → Grows u Is w
     choice_grows w g = bits_grows u v Is k (max (length ys) (length zs)) W Had r wide_too had wanted w g
 
-    choice_stops : (w : Shared) (why : StoreStop) → StopIs w.store (InChosen v.store n ys zs) why → StopIs w.store Is why
+    choice_stops : (w : StoreAndCache) (why : StoreStop) → StopIs w.store (InChosen v.store n ys zs) why → StopIs w.store Is why
     choice_stops w why stop = bits_stops u v Is k (max (length ys) (length zs)) W Had r wide_too had wanted w why stop
 
-    choice_of : (w : Shared) (ns : List ℕ) → IsChosen v.store w.store n ys zs ns → IsOf w.store W r ns
+    choice_of : (w : StoreAndCache) (ns : List ℕ) → IsChosen v.store w.store n ys zs ns → IsOf w.store W r ns
     choice_of w ns h = record { stands = h.stands; width = h.width ∙ wide_too; digits = h.digits ∙ had }
 
   module _ (n : ℕ) (ys zs : List ℕ) (dn : Denotes v.store n (variable_of e.first)) (oy : IsOf v.store W (by_second e A true) ys) (oz : IsOf v.store W (by_second e A false) zs) where
-    pub first_grows : (w : Shared) → Grows v (InChosen v.store n ys zs) w → Grows u Is w
+    pub first_grows : (w : StoreAndCache) → Grows v (InChosen v.store n ys zs) w → Grows u Is w
     first_grows w g = choice_grows n (variable_of e.first) ys zs (by_second e A true) (by_second e A false) (by_first e A) dn oy oz (first_is e A) (first_wanted u.store.order W e A) w g
 
-    pub first_stops : (w : Shared) (why : StoreStop) → StopIs w.store (InChosen v.store n ys zs) why → StopIs w.store Is why
+    pub first_stops : (w : StoreAndCache) (why : StoreStop) → StopIs w.store (InChosen v.store n ys zs) why → StopIs w.store Is why
     first_stops w why stop = choice_stops n (variable_of e.first) ys zs (by_second e A true) (by_second e A false) (by_first e A) dn oy oz (first_is e A) (first_wanted u.store.order W e A) w why stop
 
-    pub first_of : (w : Shared) (ns : List ℕ) → IsChosen v.store w.store n ys zs ns → IsOf w.store W (by_first e A) ns
+    pub first_of : (w : StoreAndCache) (ns : List ℕ) → IsChosen v.store w.store n ys zs ns → IsOf w.store W (by_first e A) ns
     first_of w ns h = choice_of n (variable_of e.first) ys zs (by_second e A true) (by_second e A false) (by_first e A) dn oy oz (first_is e A) (first_wanted u.store.order W e A) w ns h
 
   module _ (n : ℕ) (ys : List ℕ) (dn : Denotes v.store n (all_true e.controls)) (oy : IsOf v.store W (by_first e A) ys) where
-    pub last_grows : (w : Shared) → Grows v (InChosen v.store n ys xs) w → Grows u Is w
+    pub last_grows : (w : StoreAndCache) → Grows v (InChosen v.store n ys xs) w → Grows u Is w
     last_grows w g = choice_grows n (all_true e.controls) ys xs (by_first e A) A (exchange_digits e A) dn oy x_of (last_is e A) (last_wanted u.store.order W e A) w g
 
-    pub last_stops : (w : Shared) (why : StoreStop) → StopIs w.store (InChosen v.store n ys xs) why → StopIs w.store Is why
+    pub last_stops : (w : StoreAndCache) (why : StoreStop) → StopIs w.store (InChosen v.store n ys xs) why → StopIs w.store Is why
     last_stops w why stop = choice_stops n (all_true e.controls) ys xs (by_first e A) A (exchange_digits e A) dn oy x_of (last_is e A) (last_wanted u.store.order W e A) w why stop
 
-    pub last_of : (w : Shared) (ns : List ℕ) → IsChosen v.store w.store n ys xs ns → IsOf w.store W (exchange_digits e A) ns
+    pub last_of : (w : StoreAndCache) (ns : List ℕ) → IsChosen v.store w.store n ys xs ns → IsOf w.store W (exchange_digits e A) ns
     last_of w ns h = choice_of n (all_true e.controls) ys xs (by_first e A) A (exchange_digits e A) dn oy x_of (last_is e A) (last_wanted u.store.order W e A) w ns h

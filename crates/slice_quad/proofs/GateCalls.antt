@@ -4,7 +4,7 @@ use mathlib.Core.Path.{fun_ext}
 use Rattle.node_store.specs.declared.node.StoreStop.{StoreStop}
 use Rattle.diagram_model.specs.Functions.{Function, IsPrefixOf}
 use Rattle.diagram_model.specs.Stores.{function_of}
-use Rattle.diagram_ops.specs.Diagrams.{Shared, IsConsistent, variable_of}
+use Rattle.diagram_ops.specs.Diagrams.{StoreAndCache, IsConsistent, variable_of}
 use Rattle.diagram_ops.specs.Made.{Property, StopIs, IsPrefixOfSome}
 use Rattle.diagram_ops.proofs.Making.{stop_wider}
 use Rattle.slice_vec.specs.Growing.{Grows, Denotes}
@@ -40,12 +40,12 @@ all_wanted vs t p h =
     some_later vs (λ x. x t.target) (not_variable t.target ∷ cs) p (some_later vs (not_variable t.target) cs p h)
 
 -- the negation of the variable's node
-opposite_is : (e : Shared) (n v : ℕ) → function_of e.store n ≡ variable_of v → opposite_at e.store n ≡ not_variable v
+opposite_is : (e : StoreAndCache) (n v : ℕ) → function_of e.store n ≡ variable_of v → opposite_at e.store n ≡ not_variable v
 unfolding variable_of
 opposite_is e n v is = ap (λ (f : Function). λ x. not (f x)) is
 
 -- the target's variable
-module _ (u v : Shared) (t : Target) where
+module _ (u v : StoreAndCache) (t : Target) where
   pub set_grows : Grows u (IsPrefixOf u.store.order (variable_of t.target)) v → Grows u (IsGate u.store t) v
   set_grows g = grows_wider u v (IsPrefixOf u.store.order (variable_of t.target)) (IsGate u.store t) (λ p h. var_wanted u.store.order t p h) g
 
@@ -53,25 +53,25 @@ module _ (u v : Shared) (t : Target) where
   set_stops why stop = stop_wider v.store (IsPrefixOf u.store.order (variable_of t.target)) (IsGate u.store t) (λ p h. var_wanted u.store.order t p h) why stop
 
 -- its negation
-module _ (u v : Shared) (t : Target) (n : ℕ) (k : Grows u (IsGate u.store t) v) (is : function_of v.store n ≡ variable_of t.target) where
-  pub clear_grows : (w : Shared) → Grows v (IsPrefixOf v.store.order (opposite_at v.store n)) w → Grows u (IsGate u.store t) w
+module _ (u v : StoreAndCache) (t : Target) (n : ℕ) (k : Grows u (IsGate u.store t) v) (is : function_of v.store n ≡ variable_of t.target) where
+  pub clear_grows : (w : StoreAndCache) → Grows v (IsPrefixOf v.store.order (opposite_at v.store n)) w → Grows u (IsGate u.store t) w
   clear_grows w g = grows_call u v w (IsGate u.store t) (opposite_at v.store n) (not_variable t.target) k g (opposite_is v n t.target is) (λ p h. not_wanted u.store.order t p h)
 
-  pub clear_stops : (w : Shared) (why : StoreStop) → StopIs w.store (IsPrefixOf v.store.order (opposite_at v.store n)) why → StopIs w.store (IsGate u.store t) why
+  pub clear_stops : (w : StoreAndCache) (why : StoreStop) → StopIs w.store (IsPrefixOf v.store.order (opposite_at v.store n)) why → StopIs w.store (IsGate u.store t) why
   clear_stops w why stop = stop_call u v w (IsGate u.store t) (opposite_at v.store n) (not_variable t.target) k (opposite_is v n t.target is) (λ p h. not_wanted u.store.order t p h) why stop
 
-  pub clear_denotes : (w : Shared) (m : ℕ) → Denotes w.store m (opposite_at v.store n) → Denotes w.store m (not_variable t.target)
+  pub clear_denotes : (w : StoreAndCache) (m : ℕ) → Denotes w.store m (opposite_at v.store n) → Denotes w.store m (not_variable t.target)
   clear_denotes w m h = denotes_as w.store m (opposite_at v.store n) (not_variable t.target) (opposite_is v n t.target is) h
 
 -- the controls
-module _ (u v : Shared) (t : Target) (k : Grows u (IsGate u.store t) v) where
-  pub all_grows : (w : Shared) → Grows v (IsPrefixOfSome v.store.order (control_functions (mix_of t).controls)) w → Grows u (IsGate u.store t) w
+module _ (u v : StoreAndCache) (t : Target) (k : Grows u (IsGate u.store t) v) where
+  pub all_grows : (w : StoreAndCache) → Grows v (IsPrefixOfSome v.store.order (control_functions (mix_of t).controls)) w → Grows u (IsGate u.store t) w
   all_grows w g = grows_calls u v w (IsGate u.store t) (control_functions (mix_of t).controls) (control_functions (mix_of t).controls) k g refl (λ p h. all_wanted u.store.order t p h)
 
-  pub all_stops : (w : Shared) (why : StoreStop) → StopIs w.store (IsPrefixOfSome v.store.order (control_functions (mix_of t).controls)) why → StopIs w.store (IsGate u.store t) why
+  pub all_stops : (w : StoreAndCache) (why : StoreStop) → StopIs w.store (IsPrefixOfSome v.store.order (control_functions (mix_of t).controls)) why → StopIs w.store (IsGate u.store t) why
   all_stops w why stop = stop_calls u v w (IsGate u.store t) (control_functions (mix_of t).controls) (control_functions (mix_of t).controls) k refl (λ p h. all_wanted u.store.order t p h) why stop
 
 -- a variable as a function
-pub variable_as : (v : Shared) (n i : ℕ) → Denotes v.store n (variable_of i) → Denotes v.store n (λ x. x i)
+pub variable_as : (v : StoreAndCache) (n i : ℕ) → Denotes v.store n (variable_of i) → Denotes v.store n (λ x. x i)
 unfolding variable_of
 variable_as v n i h = h

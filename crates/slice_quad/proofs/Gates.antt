@@ -5,7 +5,7 @@ use mathlib.Core.Path.{fun_ext}
 use Rattle.diagram_model.specs.Functions.{Assignment, Function}
 use Rattle.diagram_model.specs.Stores.{Diagram, IsSound, function_of}
 use Rattle.diagram_ops.specs.Connectives.{connective, connected}
-use Rattle.diagram_ops.specs.Diagrams.{Shared, IsConsistent}
+use Rattle.diagram_ops.specs.Diagrams.{StoreAndCache, IsConsistent}
 use Rattle.diagram_ops.specs.Made.{Property}
 use Rattle.slice_vec.specs.Growing.{Grows, Denotes}
 use Rattle.slice_vec.proofs.Growing.{denotes_on, denotes_as}
@@ -90,7 +90,7 @@ where_clear d g s n =
     ∙ fun_ext (λ x. ap (λ b. all_true m.controls x && b) (sym (cond_not (x m.target))))
 
 -- a gate's nodes in a larger store
-pub nodes_on : (v w : Shared) (Is : Property) (g : Gate) → IsConsistent v → Grows v Is w → AreItsNodes v.store g → AreItsNodes w.store g
+pub nodes_on : (v w : StoreAndCache) (Is : Property) (g : Gate) → IsConsistent v → Grows v Is w → AreItsNodes v.store g → AreItsNodes w.store g
 nodes_on v w Is g s h n = record {
   target = denotes_on v w Is g.is_set.0 (λ x. x g.target.target) s h n.target;
   other = denotes_on v w Is g.is_clear.0 (λ x. not (x g.target.target)) s h n.other;

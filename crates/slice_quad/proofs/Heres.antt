@@ -2,7 +2,7 @@
 use Rattle.std.proofs.Common.{subst, ◌≡◌, ℕ, zero, suc, ◌+◌, ◌-◌, ◌<◌, ◌≤◌, Bool, true, false, List, length, refl, sym, ◌∙◌, ap, arith}
 use Rattle.diagram_model.specs.Functions.{Function, IsPrefixOf}
 use Rattle.diagram_model.specs.Stores.{Diagram}
-use Rattle.diagram_ops.specs.Diagrams.{Shared, IsConsistent}
+use Rattle.diagram_ops.specs.Diagrams.{StoreAndCache, IsConsistent}
 use Rattle.diagram_ops.specs.Made.{Property, IsPrefixOfSome}
 use Rattle.slice_vec.specs.Growing.{Grows}
 use Rattle.slice_vec.proofs.Growing.{denotes_on}
@@ -56,7 +56,7 @@ here_wanted d t j q r some few whole p h =
     (sign_as d.order (here_of t) (negates (mix_of t) n.coord true) p (here_negates t j r (length q.a - 1) c n.coord (steady_in d (length q.a) q whole) n.is) h)))
 
 -- what a diagonal gate takes, in a larger store
-pub diagonal_on : (u v : Shared) (Is : Property) (t : Target) (j h : ℕ) (q : Four) (zs : List ℕ) → IsConsistent u → Grows u Is v → IsDiagonal u.store t j h q zs → IsDiagonal v.store t j h q zs
+pub diagonal_on : (u v : StoreAndCache) (Is : Property) (t : Target) (j h : ℕ) (q : Four) (zs : List ℕ) → IsConsistent u → Grows u Is v → IsDiagonal u.store t j h q zs → IsDiagonal v.store t j h q zs
 diagonal_on u v Is t j h q zs s k r = record {
   low_low = r.low_low;
   low_high = r.low_high;

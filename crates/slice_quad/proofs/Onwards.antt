@@ -4,7 +4,7 @@ use mathlib.Core.Path.{fun_ext}
 use Rattle.node_store.specs.declared.node.StoreStop.{StoreStop}
 use Rattle.diagram_model.specs.Functions.{Assignment, Function}
 use Rattle.diagram_model.specs.Stores.{Diagram}
-use Rattle.diagram_ops.specs.Diagrams.{Shared, IsConsistent}
+use Rattle.diagram_ops.specs.Diagrams.{StoreAndCache, IsConsistent}
 use Rattle.diagram_ops.specs.Made.{Property, StopIs, IsMissing, IsPrefixOfSome}
 use Rattle.diagram_ops.proofs.Making.{stop_wider}
 use Rattle.slice_vec.specs.Digits.{Digits, slice_value}
@@ -27,16 +27,16 @@ use Rattle.slice_quad.specs.Work.{mix_functions}
 use Rattle.slice_quad.proofs.RawValues.{raw_values, values_as, vector_bits}
 
 -- the gate's nodes are among those of the step
-pub gate_grows : (u v : Shared) (t : Target) (q : Four) → Grows u (IsGate u.store t) v → Grows u (IsMix u.store t q) v
+pub gate_grows : (u v : StoreAndCache) (t : Target) (q : Four) → Grows u (IsGate u.store t) v → Grows u (IsMix u.store t q) v
 gate_grows u v t q g = grows_wider u v (IsGate u.store t) (IsMix u.store t q) (λ p h. wanted_gate u.store.order (length q.a) (mix_of t) (digits_in u.store q) p h) g
 
 -- and so is what they lack
-pub gate_stops : (u v : Shared) (t : Target) (q : Four) (why : StoreStop) → StopIs v.store (IsGate u.store t) why → StopIs v.store (IsMix u.store t q) why
+pub gate_stops : (u v : StoreAndCache) (t : Target) (q : Four) (why : StoreStop) → StopIs v.store (IsGate u.store t) why → StopIs v.store (IsMix u.store t q) why
 gate_stops u v t q why stop =
     stop_wider v.store (IsGate u.store t) (IsMix u.store t q) (λ p h. wanted_gate u.store.order (length q.a) (mix_of t) (digits_in u.store q) p h) why stop
 
 -- the vector stays
-pub vector_on : (u v : Shared) (Is : Property) (n : ℕ) (q : Four) → IsConsistent u → Grows u Is v → AreIntegers u.store n q → vector_in v.store q ≡ vector_in u.store q
+pub vector_on : (u v : StoreAndCache) (Is : Property) (n : ℕ) (q : Four) → IsConsistent u → Grows u Is v → AreIntegers u.store n q → vector_in v.store q ≡ vector_in u.store q
 vector_on u v Is n q s g h = fun_ext (λ x. at x)
   where
     at : (x : Assignment) → vector_in v.store q x ≡ vector_in u.store q x
@@ -51,17 +51,17 @@ over_list : (vs ws : List ℕ) (fs gs : List Function) (p : Function) → vs ≡
 over_list vs ws fs gs p e f h = rw (sym e, sym f) h
 
 -- the clauses of raw, by the store at the start and by the target
-module _ (u v : Shared) (t r : Target) (q : Four) (s : IsConsistent u) (h : AreIntegers u.store (length q.a) q) (k : Grows u (IsMix u.store t q) v) (e : r ≡ t) where
+module _ (u v : StoreAndCache) (t r : Target) (q : Four) (s : IsConsistent u) (h : AreIntegers u.store (length q.a) q) (k : Grows u (IsMix u.store t q) v) (e : r ≡ t) where
   abbrev V : Vector
   V = vector_in u.store q
 
   same : mixed (mix_of r) (vector_in v.store q) ≡ mixed (mix_of t) V
   same = ap (λ (a : Target). mixed (mix_of a) (vector_in v.store q)) e ∙ ap (λ (w : Vector). mixed (mix_of t) w) (vector_on u v (IsMix u.store t q) (length q.a) q s k h)
 
-  pub raw_grows : (w : Shared) → Grows v (IsMix v.store r q) w → Grows u (IsMix u.store t q) w
+  pub raw_grows : (w : StoreAndCache) → Grows v (IsMix v.store r q) w → Grows u (IsMix u.store t q) w
   raw_grows w g = mix_grows u v w t q s k h (by_target w g)
     where
-      by_target : (w : Shared) → Grows v (IsMix v.store r q) w → Grows v (IsMix v.store t q) w
+      by_target : (w : StoreAndCache) → Grows v (IsMix v.store r q) w → Grows v (IsMix v.store t q) w
       by_target w g = rw (sym e) g
 
   mix_wider : (p : Function) → IsMix v.store r q p → IsMix u.store t q p
@@ -69,7 +69,7 @@ module _ (u v : Shared) (t r : Target) (q : Four) (s : IsConsistent u) (h : AreI
       over_list v.store.order u.store.order (mix_functions (length q.a) (mix_of r) (digits_in v.store q)) (mix_functions (length q.a) (mix_of t) (digits_in u.store q)) p k.extends.order
       (ap (λ (a : Target). mix_functions (length q.a) (mix_of a) (digits_in v.store q)) e ∙ ap (λ (c : Coordinates). mix_functions (length q.a) (mix_of t) c) (digits_in_on u v (IsMix u.store t q) (length q.a) q s k h)) x
 
-  pub raw_stops : (w : Shared) (why : StoreStop) → StopIs w.store (IsMix v.store r q) why → StopIs w.store (IsMix u.store t q) why
+  pub raw_stops : (w : StoreAndCache) (why : StoreStop) → StopIs w.store (IsMix v.store r q) why → StopIs w.store (IsMix u.store t q) why
   raw_stops w why stop = stop_wider w.store (IsMix v.store r q) (IsMix u.store t q) mix_wider why stop
 
   pub raw_vector : (d : Diagram) (f : Four) → AreRaw d (length q.a) (raw (mix_of r) (digits_in v.store q)) f → 1 ≤ length q.a → AreValues d (mixed (mix_of t) V) f

@@ -6,7 +6,7 @@ use Rattle.node_store.specs.declared.node.StoreStop.{StoreStop}
 use Rattle.node_store.specs.declared.node.StoreStop.TheVariants as store
 use Rattle.diagram_model.specs.Functions.{Function}
 use Rattle.diagram_model.specs.Stores.{Diagram, IsLive, IsSound, function_of}
-use Rattle.diagram_ops.specs.Diagrams.{Shared, IsConsistent}
+use Rattle.diagram_ops.specs.Diagrams.{StoreAndCache, IsConsistent}
 use Rattle.diagram_ops.specs.Made.{Property, StopIs, IsMissing, IsPrefixOfSome}
 use Rattle.diagram_ops.proofs.Making.{stop_wider}
 use Rattle.gate_set.specs.declared.entry.Entry.{Entry}
@@ -46,20 +46,20 @@ module _ (s : Step) (controls : List Bool) (target : ℕ) (rows : List (List Ent
   pub mix_values : (o : Result Four StoreStop) (d : Diagram) (v : Vector) → IfOk o (AreValues d (mixed (mix_of t) v)) → IfOk o (AreValues d (stepped s v))
   mix_values o d v h = subst (λ r. IfOk o (AreValues d (stepped r v))) (sym is) (subst (λ r. IfOk o (AreValues d (mixed (mix_of r) v))) same h)
 
-  pub mix_grows : (u w : Shared) → Grows u (IsMix u.store t q) w → Grows u (IsStep u.store s q) w
+  pub mix_grows : (u w : StoreAndCache) → Grows u (IsMix u.store t q) w → Grows u (IsStep u.store s q) w
   unfolding step_functions
   mix_grows u w g = subst (λ r. Grows u (IsStep u.store r q) w) (sym is) (subst (λ r. Grows u (IsMix u.store r q) w) same g)
 
-  pub mix_stops : (o : Result Four StoreStop) (u : Shared) (d : Diagram) → IfErr o (StopIs d (IsMix u.store t q)) → IfErr o (StopIs d (IsStep u.store s q))
+  pub mix_stops : (o : Result Four StoreStop) (u : StoreAndCache) (d : Diagram) → IfErr o (StopIs d (IsMix u.store t q)) → IfErr o (StopIs d (IsStep u.store s q))
   unfolding step_functions
   mix_stops o u d stop = subst (λ r. IfErr o (StopIs d (IsStep u.store r q))) (sym is) (subst (λ r. IfErr o (StopIs d (IsMix u.store r q))) same stop)
 
 module _ (s : Step) (controls : List Bool) (first second : ℕ) (q : Four) (is : s ≡ steps.Exchange controls first second) where
-  pub exchange_grows : (u w : Shared) → Grows u (IsExchange u.store (exchange_with controls first second) q) w → Grows u (IsStep u.store s q) w
+  pub exchange_grows : (u w : StoreAndCache) → Grows u (IsExchange u.store (exchange_with controls first second) q) w → Grows u (IsStep u.store s q) w
   unfolding step_functions
   exchange_grows u w g = subst (λ r. Grows u (IsStep u.store r q) w) (sym is) g
 
-  pub exchange_stops : (o : Result Four StoreStop) (u : Shared) (d : Diagram) → IfErr o (StopIs d (IsExchange u.store (exchange_with controls first second) q)) → IfErr o (StopIs d (IsStep u.store s q))
+  pub exchange_stops : (o : Result Four StoreStop) (u : StoreAndCache) (d : Diagram) → IfErr o (StopIs d (IsExchange u.store (exchange_with controls first second) q)) → IfErr o (StopIs d (IsStep u.store s q))
   unfolding step_functions
   exchange_stops o u d stop = subst (λ r. IfErr o (StopIs d (IsStep u.store r q))) (sym is) stop
 
@@ -86,13 +86,13 @@ whole_of d q h b c e = record { stands = h.integers; width = wide }
 work_of : (d : Diagram) (s : Step) (q : SliceQuad) (p : Function) → AreIntegers d (length q.four.a) q.four → IsStep d s q.four p → IsWork d s q p
 work_of d s q p h is = work_list d.order (length q.four.a) (function_of d q.kept.0) s (vector_in d q.four) (digits_in d q.four) p (digits_vector d (length q.four.a) q.four h) is
 
-pub work_grows : (u w : Shared) (s : Step) (q : SliceQuad) → AreIntegers u.store (length q.four.a) q.four → Grows u (IsStep u.store s q.four) w → Grows u (IsWork u.store s q) w
+pub work_grows : (u w : StoreAndCache) (s : Step) (q : SliceQuad) → AreIntegers u.store (length q.four.a) q.four → Grows u (IsStep u.store s q.four) w → Grows u (IsWork u.store s q) w
 work_grows u w s q h g = grows_wider u w (IsStep u.store s q.four) (IsWork u.store s q) (λ p is. work_of u.store s q p h is) g
 
 missing_wider : (d : Diagram) (Is Are : Property) → ((p : Function) → Is p → Are p) → IsMissing d Is → IsMissing d Are
 missing_wider d Is Are wider m = record { full = m.full; missing = m.missing; is = wider m.missing m.is; none = m.none }
 
-pub work_stops : (u : Shared) (d : Diagram) (s : Step) (q : SliceQuad) → AreIntegers u.store (length q.four.a) q.four → (cause : StoreStop) (why : QuadStop) → why ≡ stop_of cause → StopIs d (IsStep u.store s q.four) cause → QuadStopIs d (IsWork u.store s q) why
+pub work_stops : (u : StoreAndCache) (d : Diagram) (s : Step) (q : SliceQuad) → AreIntegers u.store (length q.four.a) q.four → (cause : StoreStop) (why : QuadStop) → why ≡ stop_of cause → StopIs d (IsStep u.store s q.four) cause → QuadStopIs d (IsWork u.store s q) why
 work_stops u d s q h (store.Full held) why e stop = rw e (stop.0, missing_wider d (IsStep u.store s q.four) (IsWork u.store s q) (λ p is. work_of u.store s q p h is) stop.1)
 work_stops u d s q h store.OutOfMemory why e stop = rw e tt
 
@@ -106,13 +106,13 @@ never_full d Is (quads.Full held) h = absurd h
 never_full d Is quads.OutOfMemory h = tt
 
 -- ---- what stands
-pub stands_later : (u w : Shared) (Is : Property) (q : SliceQuad) → Grows u Is w → Stands u.store q → Stands w.store q
+pub stands_later : (u w : StoreAndCache) (Is : Property) (q : SliceQuad) → Grows u Is w → Stands u.store q → Stands w.store q
 stands_later u w Is q g h = record {
   integers = λ z. stands_on u w Is (nodes_of q.four z) g (h.integers z);
   kept = live_on u.store w.store q.kept.0 g.extends h.kept;
 }
 
-pub stands_next : (u w : Shared) (Is : Property) (q r : SliceQuad) (v : Vector) (k : ℕ) → Grows u Is w → Stands u.store q → r.kept ≡ q.kept → IsSettled w.store v k r.four r.exponent → Stands w.store r
+pub stands_next : (u w : StoreAndCache) (Is : Property) (q r : SliceQuad) (v : Vector) (k : ℕ) → Grows u Is w → Stands u.store q → r.kept ≡ q.kept → IsSettled w.store v k r.four r.exponent → Stands w.store r
 stands_next u w Is q r v k g h kept settled = record {
   integers = settled.halfway.stands;
   kept = let live = live_on u.store w.store q.kept.0 g.extends h.kept in rw kept live;

@@ -12,7 +12,7 @@ use Rattle.diagram_model.specs.Functions.{Assignment, Function, IsPrefixOf}
 use Rattle.diagram_model.specs.Nodes.{parts_of, value}
 use Rattle.diagram_model.specs.Stores.{Diagram, IsLive, IsSound, Extends, KeepsFunctions, AddsOnly, NoRoom, function_of, requested}
 use Rattle.diagram_ops.specs.Connectives.{connective, connected}
-use Rattle.diagram_ops.specs.Diagrams.{Shared, IsConsistent, variable_of}
+use Rattle.diagram_ops.specs.Diagrams.{StoreAndCache, IsConsistent, variable_of}
 use Rattle.diagram_ops.specs.Made.{Property, MakesOnly, StopIs}
 use Rattle.diagram_model.proofs.Requests.{function_requested}
 use Rattle.diagram_ops.proofs.Making.{no_node}

@@ -8,7 +8,7 @@ use mathlib.Core.Path.{fun_ext}
 use Rattle.diagram_model.specs.Functions.{Assignment}
 use Rattle.diagram_model.specs.Stores.{Diagram, IsLive, KeepsFunctions, function_of}
 use Rattle.diagram_model.proofs.Growing.{function_on}
-use Rattle.diagram_ops.specs.Diagrams.{Shared, IsConsistent}
+use Rattle.diagram_ops.specs.Diagrams.{StoreAndCache, IsConsistent}
 use Rattle.diagram_ops.specs.Made.{Property}
 use Rattle.slice_vec.specs.Digits.{Digits, IsSteady, slice_value}
 use Rattle.slice_vec.specs.Growing.{Grows, Denotes}
@@ -29,7 +29,7 @@ pub shows_none : (d : Diagram) (s : Digits) → Shows d [] s
 shows_none d s = record { each = λ i less. absurd (omega (arith, less)) }
 
 -- one more bit, in a larger store
-pub shows_more : (v w : Shared) (Is : Property) (ns : List ℕ) (s : Digits) (n : ℕ) → IsConsistent v → Grows v Is w → Shows v.store ns s → Denotes w.store n (s (length ns)) → Shows w.store (ns ++ n ∷ []) s
+pub shows_more : (v w : StoreAndCache) (Is : Property) (ns : List ℕ) (s : Digits) (n : ℕ) → IsConsistent v → Grows v Is w → Shows v.store ns s → Denotes w.store n (s (length ns)) → Shows w.store (ns ++ n ∷ []) s
 shows_more v w Is ns s n sound g h is =
     let long : (i : ℕ) → i < length (ns ++ n ∷ []) → i ≢ length ns → i < length ns = λ i less ne. omega (arith, less, ne, length-append ns (n ∷ [])) in
     record {
@@ -64,7 +64,7 @@ bit_live d ns i h =
     ]
 
 -- a bit in a larger store
-pub bit_denotes : (v w : Shared) (Is : Property) (xs : List ℕ) (i n : ℕ) → IsConsistent v → Grows v Is w → StandsIn v.store xs → n ≡ bit_node xs i → Denotes w.store n (digits_of v.store xs i)
+pub bit_denotes : (v w : StoreAndCache) (Is : Property) (xs : List ℕ) (i n : ℕ) → IsConsistent v → Grows v Is w → StandsIn v.store xs → n ≡ bit_node xs i → Denotes w.store n (digits_of v.store xs i)
 unfolding digits_of
 bit_denotes v w Is xs i n s g h e =
     denotes_node w.store n (bit_node xs i) (function_of v.store (bit_node xs i)) e (denotes_on v w Is (bit_node xs i) (function_of v.store (bit_node xs i)) s g (denotes_itself v.store (bit_node xs i) (bit_live v.store xs i h)))
@@ -101,7 +101,7 @@ shows_digits d ns s h some steady = fun_ext (λ i. at i)
 pub shows_stands : (d : Diagram) (ns : List ℕ) (s : Digits) → Shows d ns s → 0 < length ns → length ns ≤ 131 → StandsIn d ns
 shows_stands d ns s h some few = record { some = some; few = few; live = λ i less. (h.each i less).live }
 
-pub digits_on : (v w : Shared) (Is : Property) (ns : List ℕ) → IsConsistent v → Grows v Is w → StandsIn v.store ns → digits_of w.store ns ≡ digits_of v.store ns
+pub digits_on : (v w : StoreAndCache) (Is : Property) (ns : List ℕ) → IsConsistent v → Grows v Is w → StandsIn v.store ns → digits_of w.store ns ≡ digits_of v.store ns
 unfolding digits_of
 digits_on v w Is ns s g h = fun_ext (λ i. function_on v.store w.store (bit_node ns i) s.store g.sound.store g.extends (bit_live v.store ns i h))
 
@@ -109,7 +109,7 @@ digits_on v w Is ns s g h = fun_ext (λ i. function_on v.store w.store (bit_node
 pub stands_kept : (d e : Diagram) (ns : List ℕ) → KeepsFunctions d e → StandsIn d ns → StandsIn e ns
 stands_kept d e ns k h = record { some = h.some; few = h.few; live = λ i less. k.live (get_or ns i 0) (h.live i less) }
 
-pub stands_on : (v w : Shared) (Is : Property) (ns : List ℕ) → Grows v Is w → StandsIn v.store ns → StandsIn w.store ns
+pub stands_on : (v w : StoreAndCache) (Is : Property) (ns : List ℕ) → Grows v Is w → StandsIn v.store ns → StandsIn w.store ns
 stands_on v w Is ns g h = stands_kept v.store w.store ns g.functions h
 
 -- three constants stand everywhere

@@ -7,7 +7,7 @@ use Rattle.diagram_model.specs.Stores.{Diagram, IsLive, function_of}
 use Rattle.diagram_model.proofs.Growing.{function_on}
 use Rattle.diagram_model.proofs.Joint.{trio_same}
 use Rattle.diagram_ops.specs.Bounds.{joint_size_in, joint_size_of, TakesAtMost}
-use Rattle.diagram_ops.specs.Diagrams.{Shared, IsConsistent, variable_of}
+use Rattle.diagram_ops.specs.Diagrams.{StoreAndCache, IsConsistent, variable_of}
 use Rattle.diagram_ops.specs.Flips.{flip}
 use Rattle.diagram_ops.specs.Made.{Property}
 use Rattle.slice_vec.specs.Bounds.{total, merging}
@@ -34,7 +34,7 @@ joint_as d e f g h k l m same p q r =
     ∙ ap (λ (t : Trio). joint_size (length d.order) d.order (t ∷ [])) (trio_same f g h k l m p q r)
 
 -- the joint size of three nodes stays
-pub joint_on : (v w : Shared) (Is : Property) (a b c : ℕ) → IsConsistent v → Grows v Is w → IsLive v.store a → IsLive v.store b → IsLive v.store c → joint_size_of w.store a b c ≡ joint_size_of v.store a b c
+pub joint_on : (v w : StoreAndCache) (Is : Property) (a b c : ℕ) → IsConsistent v → Grows v Is w → IsLive v.store a → IsLive v.store b → IsLive v.store c → joint_size_of w.store a b c ≡ joint_size_of v.store a b c
 joint_on v w Is a b c s g la lb lc =
     let on = λ (n : ℕ) (l : IsLive v.store n). function_on v.store w.store n s.store g.sound.store g.extends l in
     joint_as v.store w.store (function_of w.store a) (function_of w.store b) (function_of w.store c) (function_of v.store a) (function_of v.store b) (function_of v.store c) g.extends.order (on a la) (on b lb) (on c lc)

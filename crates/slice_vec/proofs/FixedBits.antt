@@ -4,7 +4,7 @@ use Rattle.diagram_model.specs.Functions.{Function, IsPrefixOf, fix}
 use Rattle.diagram_model.specs.Stores.{Diagram, function_of}
 use Rattle.node_store.specs.declared.node.StoreStop.{StoreStop}
 use Rattle.diagram_ops.specs.Cofactors.{cofactors_of, InCofactors, AreCofactors}
-use Rattle.diagram_ops.specs.Diagrams.{Shared}
+use Rattle.diagram_ops.specs.Diagrams.{StoreAndCache}
 use Rattle.diagram_ops.specs.Made.{MakesOnly, StopIs, IsPrefixOfSome}
 use Rattle.diagram_ops.proofs.Making.{makes_wider, stop_wider}
 use Rattle.slice_vec.specs.Digits.{fixed}
@@ -47,7 +47,7 @@ pub fixed_stop : (d e : Diagram) (v : ℕ) (b : Bool) (xs : List ℕ) (why : Sto
 fixed_stop d e v b xs why h = stop_wider e (InCofactors v b d xs) (InFixed d v b xs) (λ p q. wanted_fixed d v b xs p q) why h
 
 -- the cofactors of the nodes are the bits of the fixed integer
-pub cofactors_done : (u w : Shared) (v : ℕ) (b : Bool) (xs zs : List ℕ) → StandsIn u.store xs → Grows u (InFixed u.store v b xs) w → AreCofactors v b u.store w.store xs zs → IsFixed u.store w.store v b xs zs
+pub cofactors_done : (u w : StoreAndCache) (v : ℕ) (b : Bool) (xs zs : List ℕ) → StandsIn u.store xs → Grows u (InFixed u.store v b xs) w → AreCofactors v b u.store w.store xs zs → IsFixed u.store w.store v b xs zs
 cofactors_done u w v b xs zs stands grows h =
     let follows : Follows u (length xs) (fixed v b (digits_of u.store xs)) w zs = record {
       grows = grows;

@@ -4,7 +4,7 @@ use Rattle.node_store.specs.declared.node.StoreStop.{StoreStop}
 use Rattle.diagram_model.specs.Functions.{Function, IsPrefixOf, put}
 use Rattle.diagram_model.specs.Stores.{Diagram, IsLive, IsSound, function_of}
 use Rattle.diagram_model.proofs.Growing.{function_on}
-use Rattle.diagram_ops.specs.Diagrams.{Shared, IsConsistent}
+use Rattle.diagram_ops.specs.Diagrams.{StoreAndCache, IsConsistent}
 use Rattle.diagram_ops.specs.Made.{Property, StopIs, IsPrefixOfSome}
 use Rattle.diagram_ops.specs.Bounds.{joint_size_in, joint_size_of, TakesAtMost}
 use Rattle.diagram_ops.specs.Flips.{flip, exchanged}
@@ -20,23 +20,23 @@ use Rattle.slice_vec.proofs.Growing.{grows_none, grows_call, stop_call, some_bit
 use Rattle.slice_vec.proofs.Places.{false_function}
 
 -- the first bits of s so far, of w bits
-pub record Follows (u : Shared) (w : ℕ) (s : Digits) (v : Shared) (ns : List ℕ) : Type 0 where
+pub record Follows (u : StoreAndCache) (w : ℕ) (s : Digits) (v : StoreAndCache) (ns : List ℕ) : Type 0 where
   pub grows : Grows u (IsPrefixOfSome u.store.order (first_bits w s)) v
   pub shows : Shows v.store ns s
 
-pub follows_none : (u : Shared) (w : ℕ) (s : Digits) → IsConsistent u → Follows u w s u []
+pub follows_none : (u : StoreAndCache) (w : ℕ) (s : Digits) → IsConsistent u → Follows u w s u []
 follows_none u w s sound = record { grows = grows_none u (IsPrefixOfSome u.store.order (first_bits w s)) sound; shows = shows_none u.store s }
 
-module _ (u : Shared) (k : ℕ) (s : Digits) (v : Shared) (ns : List ℕ) (h : Follows u k s v ns) (i : ℕ) (at : length ns ≡ i) (f : Function) (same : f ≡ s i) where
-  pub next_grows : (w : Shared) → i < k → Grows v (IsPrefixOf v.store.order f) w → Grows u (IsPrefixOfSome u.store.order (first_bits k s)) w
+module _ (u : StoreAndCache) (k : ℕ) (s : Digits) (v : StoreAndCache) (ns : List ℕ) (h : Follows u k s v ns) (i : ℕ) (at : length ns ≡ i) (f : Function) (same : f ≡ s i) where
+  pub next_grows : (w : StoreAndCache) → i < k → Grows v (IsPrefixOf v.store.order f) w → Grows u (IsPrefixOfSome u.store.order (first_bits k s)) w
   next_grows w less g =
       grows_call u v w (IsPrefixOfSome u.store.order (first_bits k s)) f (s i) h.grows g same (λ p q. some_bit u.store.order k i s p less q)
 
-  pub next_stops : (w : Shared) → i < k → (why : StoreStop) → StopIs w.store (IsPrefixOf v.store.order f) why → StopIs w.store (IsPrefixOfSome u.store.order (first_bits k s)) why
+  pub next_stops : (w : StoreAndCache) → i < k → (why : StoreStop) → StopIs w.store (IsPrefixOf v.store.order f) why → StopIs w.store (IsPrefixOfSome u.store.order (first_bits k s)) why
   next_stops w less why stop =
       stop_call u v w (IsPrefixOfSome u.store.order (first_bits k s)) f (s i) h.grows same (λ p q. some_bit u.store.order k i s p less q) why stop
 
-  pub follows_more : (w : Shared) (zs : List ℕ) (n : ℕ) → i < k → Grows v (IsPrefixOf v.store.order f) w → Denotes w.store n f → zs ≡ ns ++ n ∷ [] → Follows u k s w zs
+  pub follows_more : (w : StoreAndCache) (zs : List ℕ) (n : ℕ) → i < k → Grows v (IsPrefixOf v.store.order f) w → Denotes w.store n f → zs ≡ ns ++ n ∷ [] → Follows u k s w zs
   follows_more w zs n less g is made =
       let out : Follows u k s w (ns ++ n ∷ []) = record {
         grows = next_grows w less g;
@@ -45,7 +45,7 @@ module _ (u : Shared) (k : ℕ) (s : Digits) (v : Shared) (ns : List ℕ) (h : F
       rw made out
 
 -- the choice at place i
-pub choice_is : (u v : Shared) (Is : Property) (n : ℕ) (xs ys : List ℕ) (i an bn : ℕ) → IsConsistent u → Grows u Is v → IsLive u.store n → Denotes v.store an (digits_of u.store xs i) → Denotes v.store bn (digits_of u.store ys i) → choice_at v.store n an bn ≡ chosen (function_of u.store n) (digits_of u.store xs) (digits_of u.store ys) i
+pub choice_is : (u v : StoreAndCache) (Is : Property) (n : ℕ) (xs ys : List ℕ) (i an bn : ℕ) → IsConsistent u → Grows u Is v → IsLive u.store n → Denotes v.store an (digits_of u.store xs i) → Denotes v.store bn (digits_of u.store ys i) → choice_at v.store n an bn ≡ chosen (function_of u.store n) (digits_of u.store xs) (digits_of u.store ys) i
 unfolding chosen
 choice_is u v Is n xs ys i an bn s g live a b =
     let m = denotes_on u v Is n (function_of u.store n) s g (denotes_itself u.store n live) in
@@ -54,7 +54,7 @@ choice_is u v Is n xs ys i an bn s g live a b =
     ∙ ap (λ (f : Function). choice (function_of u.store n) (digits_of u.store xs i) f) b.is
 
 -- its steps
-pub choice_joint : (u v : Shared) (Is : Property) (n : ℕ) (xs ys : List ℕ) (i an bn : ℕ) (w : Shared) (s t : ℕ) → IsConsistent u → Grows u Is v → IsLive u.store n → Denotes v.store an (digits_of u.store xs i) → Denotes v.store bn (digits_of u.store ys i) → TakesAtMost (joint_size_of v.store n an bn) v.store w.store s t → TakesAtMost (choosing u.store (function_of u.store n) (digits_of u.store xs) (digits_of u.store ys) i) v.store w.store s t
+pub choice_joint : (u v : StoreAndCache) (Is : Property) (n : ℕ) (xs ys : List ℕ) (i an bn : ℕ) (w : StoreAndCache) (s t : ℕ) → IsConsistent u → Grows u Is v → IsLive u.store n → Denotes v.store an (digits_of u.store xs i) → Denotes v.store bn (digits_of u.store ys i) → TakesAtMost (joint_size_of v.store n an bn) v.store w.store s t → TakesAtMost (choosing u.store (function_of u.store n) (digits_of u.store xs) (digits_of u.store ys) i) v.store w.store s t
 unfolding choosing
 choice_joint u v Is n xs ys i an bn w s t sound g live a b h =
     let m = denotes_on u v Is n (function_of u.store n) sound g (denotes_itself u.store n live) in
@@ -62,7 +62,7 @@ choice_joint u v Is n xs ys i an bn w s t sound g live a b h =
     steps_as (joint_size_of v.store n an bn) (joint_size_in u.store (function_of u.store n) x y) v.store w.store s t
     (joint_as u.store v.store (function_of v.store n) (function_of v.store an) (function_of v.store bn) (function_of u.store n) x y g.extends.order m.is a.is b.is) h
 
-pub chosen_done : (u v : Shared) (n : ℕ) (xs ys zs : List ℕ) → StandsIn u.store xs → StandsIn u.store ys → Follows u (max (length xs) (length ys)) (chosen (function_of u.store n) (digits_of u.store xs) (digits_of u.store ys)) v zs → length zs ≡ max (length xs) (length ys) → IsChosen u.store v.store n xs ys zs
+pub chosen_done : (u v : StoreAndCache) (n : ℕ) (xs ys zs : List ℕ) → StandsIn u.store xs → StandsIn u.store ys → Follows u (max (length xs) (length ys)) (chosen (function_of u.store n) (digits_of u.store xs) (digits_of u.store ys)) v zs → length zs ≡ max (length xs) (length ys) → IsChosen u.store v.store n xs ys zs
 chosen_done u v n xs ys zs hx hy h len =
     let f = function_of u.store n in
     let a = digits_of u.store xs in let b = digits_of u.store ys in
@@ -84,7 +84,7 @@ chosen_done u v n xs ys zs hx hy h len =
           ∙ ap (λ z. cond (f x) (slice_value (length xs - 1) a x) z) (value_on (length ys - 1) m b x hb (omega (arith, len)));
     }
 
-pub fixed_done : (u v : Shared) (t : ℕ) (b : Bool) (xs zs : List ℕ) → StandsIn u.store xs → Follows u (length xs) (fixed t b (digits_of u.store xs)) v zs → length zs ≡ length xs → IsFixed u.store v.store t b xs zs
+pub fixed_done : (u v : StoreAndCache) (t : ℕ) (b : Bool) (xs zs : List ℕ) → StandsIn u.store xs → Follows u (length xs) (fixed t b (digits_of u.store xs)) v zs → length zs ≡ length xs → IsFixed u.store v.store t b xs zs
 fixed_done u v t b xs zs hx h len =
     let a = digits_of u.store xs in
     let m = length zs - 1 in
@@ -104,17 +104,17 @@ fixed_done u v t b xs zs hx h len =
     }
 
 -- a node that stays has its function
-stays : (u v : Shared) (Is : Property) (n : ℕ) → IsConsistent u → Grows u Is v → IsLive u.store n → Denotes v.store n (function_of u.store n)
+stays : (u v : StoreAndCache) (Is : Property) (n : ℕ) → IsConsistent u → Grows u Is v → IsLive u.store n → Denotes v.store n (function_of u.store n)
 stays u v Is n s g live = denotes_on u v Is n (function_of u.store n) s g (denotes_itself u.store n live)
 
 -- the flipped bit at place i
-pub turned_is : (u v : Shared) (Is : Property) (t n : ℕ) (xs : List ℕ) (i an : ℕ) → IsConsistent u → Grows u Is v → IsLive u.store n → Denotes v.store an (digits_of u.store xs i) → exchanged t (function_of v.store n) (function_of v.store an) ≡ turned t (function_of u.store n) (digits_of u.store xs) i
+pub turned_is : (u v : StoreAndCache) (Is : Property) (t n : ℕ) (xs : List ℕ) (i an : ℕ) → IsConsistent u → Grows u Is v → IsLive u.store n → Denotes v.store an (digits_of u.store xs i) → exchanged t (function_of v.store n) (function_of v.store an) ≡ turned t (function_of u.store n) (digits_of u.store xs) i
 unfolding turned
 turned_is u v Is t n xs i an s g live a =
     ap (λ (f : Function). exchanged t f (function_of v.store an)) (stays u v Is n s g live).is
     ∙ ap (exchanged t (function_of u.store n)) a.is
 
-pub turned_live : (u v : Shared) (Is : Property) (n : ℕ) → IsConsistent u → Grows u Is v → IsLive u.store n → IsLive v.store n
+pub turned_live : (u v : StoreAndCache) (Is : Property) (n : ℕ) → IsConsistent u → Grows u Is v → IsLive u.store n → IsLive v.store n
 turned_live u v Is n s g live = (stays u v Is n s g live).live
 
 -- FALSE stays FALSE
@@ -125,20 +125,20 @@ turned_none d t n s =
     record { live = inl (omega arith); is = none ∙ ap (exchanged t (function_of d n)) (sym none) }
 
 -- what is known of the bit below, in the store of this place
-pub turned_below : (u v : Shared) (Is : Property) (t n a m : ℕ) → IsConsistent u → Grows u Is v → IsLive u.store n → Denotes v.store m (exchanged t (function_of u.store n) (function_of v.store a)) → Denotes v.store m (exchanged t (function_of v.store n) (function_of v.store a))
+pub turned_below : (u v : StoreAndCache) (Is : Property) (t n a m : ℕ) → IsConsistent u → Grows u Is v → IsLive u.store n → Denotes v.store m (exchanged t (function_of u.store n) (function_of v.store a)) → Denotes v.store m (exchanged t (function_of v.store n) (function_of v.store a))
 turned_below u v Is t n a m s g live h =
     denotes_as v.store m (exchanged t (function_of u.store n) (function_of v.store a)) (exchanged t (function_of v.store n) (function_of v.store a))
     (ap (λ (f : Function). exchanged t f (function_of v.store a)) (sym (stays u v Is n s g live).is)) h
 
 -- what was made is known in the store after it
-pub turned_next : (u v w : Shared) (Was Is : Property) (t n a m : ℕ) → IsConsistent u → Grows u Was v → Grows v Is w → IsLive u.store n → IsLive v.store a → Denotes w.store m (exchanged t (function_of v.store n) (function_of v.store a)) → Denotes w.store m (exchanged t (function_of u.store n) (function_of w.store a))
+pub turned_next : (u v w : StoreAndCache) (Was Is : Property) (t n a m : ℕ) → IsConsistent u → Grows u Was v → Grows v Is w → IsLive u.store n → IsLive v.store a → Denotes w.store m (exchanged t (function_of v.store n) (function_of v.store a)) → Denotes w.store m (exchanged t (function_of u.store n) (function_of w.store a))
 turned_next u v w Was Is t n a m s first g ln la h =
     denotes_as w.store m (exchanged t (function_of v.store n) (function_of v.store a)) (exchanged t (function_of u.store n) (function_of w.store a))
     (ap (λ (f : Function). exchanged t f (function_of v.store a)) (stays u v Was n s first ln).is
     ∙ ap (exchanged t (function_of u.store n)) (sym (function_on v.store w.store a first.sound.store g.sound.store g.extends la))) h
 
 -- its steps
-pub turned_joint : (u v : Shared) (Is : Property) (t n : ℕ) (xs : List ℕ) (i an : ℕ) (w : Shared) (s0 s1 : ℕ) → IsConsistent u → Grows u Is v → IsLive u.store n → Denotes v.store an (digits_of u.store xs i) → TakesAtMost (joint_size_in v.store (function_of v.store n) (flip t (function_of v.store an)) (function_of v.store an)) v.store w.store s0 s1 → TakesAtMost (turning u.store t (function_of u.store n) (digits_of u.store xs) i) v.store w.store s0 s1
+pub turned_joint : (u v : StoreAndCache) (Is : Property) (t n : ℕ) (xs : List ℕ) (i an : ℕ) (w : StoreAndCache) (s0 s1 : ℕ) → IsConsistent u → Grows u Is v → IsLive u.store n → Denotes v.store an (digits_of u.store xs i) → TakesAtMost (joint_size_in v.store (function_of v.store n) (flip t (function_of v.store an)) (function_of v.store an)) v.store w.store s0 s1 → TakesAtMost (turning u.store t (function_of u.store n) (digits_of u.store xs) i) v.store w.store s0 s1
 unfolding turning
 turned_joint u v Is t n xs i an w s0 s1 sound g live a h =
     let m = denotes_on u v Is n (function_of u.store n) sound g (denotes_itself u.store n live) in
@@ -147,7 +147,7 @@ turned_joint u v Is t n xs i an w s0 s1 sound g live a h =
     steps_as (joint_size_in v.store (function_of v.store n) (flip t f) f) (joint_size_in u.store (function_of u.store n) (flip t x) x) v.store w.store s0 s1
     (joint_as u.store v.store (function_of v.store n) (flip t f) f (function_of u.store n) (flip t x) x g.extends.order m.is (ap (flip t) a.is) a.is) h
 
-pub turned_done : (u v : Shared) (t n : ℕ) (xs zs : List ℕ) → StandsIn u.store xs → Follows u (length xs) (turned t (function_of u.store n) (digits_of u.store xs)) v zs → length zs ≡ length xs → IsTurned u.store v.store t n xs zs
+pub turned_done : (u v : StoreAndCache) (t n : ℕ) (xs zs : List ℕ) → StandsIn u.store xs → Follows u (length xs) (turned t (function_of u.store n) (digits_of u.store xs)) v zs → length zs ≡ length xs → IsTurned u.store v.store t n xs zs
 turned_done u v t n xs zs hx h len =
     let f = function_of u.store n in
     let a = digits_of u.store xs in

@@ -5,7 +5,7 @@ use mathlib.Core.Path.{fun_ext}
 use Rattle.diagram_model.specs.Functions.{Assignment, Function, put}
 use Rattle.diagram_model.specs.Stores.{Extends, function_of}
 use Rattle.diagram_ops.specs.Connectives.{connective, connected}
-use Rattle.diagram_ops.specs.Diagrams.{Shared, variable_of}
+use Rattle.diagram_ops.specs.Diagrams.{StoreAndCache, variable_of}
 use Rattle.diagram_ops.specs.Flips.{flip}
 use Rattle.diagram_ops.proofs.Results.{put_same}
 use Rattle.diagram_ops.specs.Bounds.{TakesAtMost}
@@ -70,20 +70,20 @@ merge_high v bit n f g on e =
     ∙ ap (λ (b : Bool). merge_at v b f g) (sym on)
 
 -- the merged bit at place i
-pub merge_is : (u v : Shared) (t : ℕ) (bit : Bool) (xs ys : List ℕ) (i an bn : ℕ) → Denotes v.store an (digits_of u.store xs i) → Denotes v.store bn (digits_of u.store ys i) → merge_at t bit (function_of v.store an) (function_of v.store bn) ≡ chosen (variable_of t) (fixed t bit (digits_of u.store xs)) (fixed t bit (digits_of u.store ys)) i
+pub merge_is : (u v : StoreAndCache) (t : ℕ) (bit : Bool) (xs ys : List ℕ) (i an bn : ℕ) → Denotes v.store an (digits_of u.store xs i) → Denotes v.store bn (digits_of u.store ys i) → merge_at t bit (function_of v.store an) (function_of v.store bn) ≡ chosen (variable_of t) (fixed t bit (digits_of u.store xs)) (fixed t bit (digits_of u.store ys)) i
 unfolding chosen fixed
 merge_is u v t bit xs ys i an bn a b =
     ap (λ (f : Function). merge_at t bit f (function_of v.store bn)) a.is
     ∙ ap (λ (f : Function). merge_at t bit (digits_of u.store xs i) f) b.is
 
 -- its steps
-pub merged_joint : (u v : Shared) (t : ℕ) (bit : Bool) (xs ys : List ℕ) (i an bn : ℕ) (w : Shared) (s0 s1 : ℕ) → Extends u.store v.store → Denotes v.store an (digits_of u.store xs i) → Denotes v.store bn (digits_of u.store ys i) → TakesAtMost (merging v.store t bit (function_of v.store an) (function_of v.store bn)) v.store w.store s0 s1 → TakesAtMost (merging u.store t bit (digits_of u.store xs i) (digits_of u.store ys i)) v.store w.store s0 s1
+pub merged_joint : (u v : StoreAndCache) (t : ℕ) (bit : Bool) (xs ys : List ℕ) (i an bn : ℕ) (w : StoreAndCache) (s0 s1 : ℕ) → Extends u.store v.store → Denotes v.store an (digits_of u.store xs i) → Denotes v.store bn (digits_of u.store ys i) → TakesAtMost (merging v.store t bit (function_of v.store an) (function_of v.store bn)) v.store w.store s0 s1 → TakesAtMost (merging u.store t bit (digits_of u.store xs i) (digits_of u.store ys i)) v.store w.store s0 s1
 merged_joint u v t bit xs ys i an bn w s0 s1 ext a b h =
     let f = function_of v.store an in let g = function_of v.store bn in
     let x = digits_of u.store xs i in let y = digits_of u.store ys i in
     steps_as (merging v.store t bit f g) (merging u.store t bit x y) v.store w.store s0 s1 (merging_as u.store v.store t bit f g x y ext.order a.is b.is) h
 
-pub merged_done : (u v : Shared) (t : ℕ) (bit : Bool) (xs ys zs : List ℕ) → StandsIn u.store xs → StandsIn u.store ys → Follows u (max (length xs) (length ys)) (chosen (variable_of t) (fixed t bit (digits_of u.store xs)) (fixed t bit (digits_of u.store ys))) v zs → length zs ≡ max (length xs) (length ys) → IsMerged u.store v.store t bit xs ys zs
+pub merged_done : (u v : StoreAndCache) (t : ℕ) (bit : Bool) (xs ys zs : List ℕ) → StandsIn u.store xs → StandsIn u.store ys → Follows u (max (length xs) (length ys)) (chosen (variable_of t) (fixed t bit (digits_of u.store xs)) (fixed t bit (digits_of u.store ys))) v zs → length zs ≡ max (length xs) (length ys) → IsMerged u.store v.store t bit xs ys zs
 merged_done u v t bit xs ys zs hx hy h len =
     let a = digits_of u.store xs in let b = digits_of u.store ys in
     let m = length zs - 1 in

@@ -3,7 +3,7 @@ use Rattle.std.proofs.Common.{◌≡◌, ℕ, false, suc, ◌+◌, ◌-◌, ◌<
 use Rattle.node_store.specs.declared.node.StoreStop.{StoreStop}
 use Rattle.diagram_model.specs.Functions.{Function, IsPrefixOf}
 use Rattle.diagram_model.specs.Stores.{Diagram, IsLive, function_of}
-use Rattle.diagram_ops.specs.Diagrams.{Shared, IsConsistent}
+use Rattle.diagram_ops.specs.Diagrams.{StoreAndCache, IsConsistent}
 use Rattle.diagram_ops.specs.Made.{Property, StopIs, IsPrefixOfSome}
 use Rattle.diagram_ops.specs.Bounds.{joint_size_of, TakesAtMost}
 use Rattle.slice_vec.specs.Bounds.{negating, carrying}
@@ -22,12 +22,12 @@ abbrev pub bit_steps : Diagram → ℕ → List ℕ → ℕ → ℕ
 bit_steps d n xs i = negating d (function_of d n) (digits_of d xs) i + carrying d (function_of d n) (digits_of d xs) i
 
 -- the negation so far, and the carry
-pub record Negates (u : Shared) (n : ℕ) (xs : List ℕ) (v : Shared) (ns : List ℕ) (m : ℕ) : Type 0 where
+pub record Negates (u : StoreAndCache) (n : ℕ) (xs : List ℕ) (v : StoreAndCache) (ns : List ℕ) (m : ℕ) : Type 0 where
   pub grows : Grows u (InNegation u.store n xs) v
   pub shows : Shows v.store ns (negated (function_of u.store n) (digits_of u.store xs))
   pub carries : Denotes v.store m (one_carry (function_of u.store n) (digits_of u.store xs) (length ns))
 
-pub negates_none : (u : Shared) (n : ℕ) (xs : List ℕ) → IsConsistent u → IsLive u.store n → Negates u n xs u [] n
+pub negates_none : (u : StoreAndCache) (n : ℕ) (xs : List ℕ) → IsConsistent u → IsLive u.store n → Negates u n xs u [] n
 unfolding one_carry
 negates_none u n xs s live = record {
   grows = grows_none u (InNegation u.store n xs) s;
@@ -36,7 +36,7 @@ negates_none u n xs s live = record {
 }
 
 -- the bit at place i, and the carry
-pub record IsAtBit (u v : Shared) (n : ℕ) (xs ns : List ℕ) (m i an : ℕ) : Type 0 where
+pub record IsAtBit (u v : StoreAndCache) (n : ℕ) (xs ns : List ℕ) (m i an : ℕ) : Type 0 where
   pub began : IsConsistent u
   pub stands : StandsIn u.store xs
   pub live : IsLive u.store n
@@ -54,7 +54,7 @@ odd_negated : (f : Function) (a : Digits) (i : ℕ) → odd (a i) f (one_carry f
 unfolding odd negated flipped xor_of
 odd_negated f a i = refl
 
-module _ (u v : Shared) (n : ℕ) (xs ns : List ℕ) (m i an : ℕ) (place : IsAtBit u v n xs ns m i an) where
+module _ (u v : StoreAndCache) (n : ℕ) (xs ns : List ℕ) (m i an : ℕ) (place : IsAtBit u v n xs ns m i an) where
   pub a_denotes : Denotes v.store an (digits_of u.store xs i)
   a_denotes = bit_denotes u v (InNegation u.store n xs) xs i an place.began place.negates.grows place.stands place.a_is
 
@@ -77,13 +77,13 @@ module _ (u v : Shared) (n : ℕ) (xs ns : List ℕ) (m i an : ℕ) (place : IsA
       let f = function_of u.store n in let a = digits_of u.store xs in
       joint_as u.store v.store (function_of v.store m) (function_of v.store an) (function_of v.store 0) (one_carry f a i) (a i) (λ x. false) place.negates.grows.extends.order carry_here a_denotes.is (false_function v.store place.negates.grows.sound.store)
 
-  pub both_steps : (w : Shared) (s t : ℕ) → TakesAtMost (joint_size_of v.store an n m + joint_size_of v.store m an 0) v.store w.store s t → TakesAtMost (bit_steps u.store n xs i) v.store w.store s t
+  pub both_steps : (w : StoreAndCache) (s t : ℕ) → TakesAtMost (joint_size_of v.store an n m + joint_size_of v.store m an 0) v.store w.store s t → TakesAtMost (bit_steps u.store n xs i) v.store w.store s t
   both_steps w s t h =
       let f = function_of u.store n in let a = digits_of u.store xs in
       steps_as (joint_size_of v.store an n m + joint_size_of v.store m an 0) (bit_steps u.store n xs i) v.store w.store s t
       (ap (λ j. j + joint_size_of v.store m an 0) bit_joint ∙ ap (λ j. negating u.store f a i + j) carry_joint) h
 
-  pub sign_steps : (k : ℕ) (w : Shared) (s t : ℕ) → i ≡ k → TakesAtMost (joint_size_of v.store an n m) v.store w.store s t → TakesAtMost (negating u.store (function_of u.store n) (digits_of u.store xs) k) v.store w.store s t
+  pub sign_steps : (k : ℕ) (w : StoreAndCache) (s t : ℕ) → i ≡ k → TakesAtMost (joint_size_of v.store an n m) v.store w.store s t → TakesAtMost (negating u.store (function_of u.store n) (digits_of u.store xs) k) v.store w.store s t
   sign_steps k w s t same h =
       let f = function_of u.store n in let a = digits_of u.store xs in
       steps_as (joint_size_of v.store an n m) (negating u.store f a k) v.store w.store s t (bit_joint ∙ ap (negating u.store f a) same) h
@@ -111,17 +111,17 @@ module _ (u v : Shared) (n : ℕ) (xs ns : List ℕ) (m i an : ℕ) (place : IsA
       (λ p q. wanted_next u.store.order w (suc i) f a p (omega (arith, less)) q)
 
   -- a place before the last
-  pub bit_grows : (w : Shared) → i < length xs → Grows v (IsPrefixOfSome v.store.order (odd_at v.store an n m ∷ less_at v.store m an ∷ [])) w → Grows u (InNegation u.store n xs) w
+  pub bit_grows : (w : StoreAndCache) → i < length xs → Grows v (IsPrefixOfSome v.store.order (odd_at v.store an n m ∷ less_at v.store m an ∷ [])) w → Grows u (InNegation u.store n xs) w
   bit_grows w less g =
       let f = function_of u.store n in let a = digits_of u.store xs in
       grows_calls u v w (InNegation u.store n xs) (odd_at v.store an n m ∷ less_at v.store m an ∷ []) (negated f a i ∷ one_carry f a (suc i) ∷ []) place.negates.grows g both_same (both_wanted less)
 
-  pub bit_stops : (w : Shared) → i < length xs → (why : StoreStop) → StopIs w.store (IsPrefixOfSome v.store.order (odd_at v.store an n m ∷ less_at v.store m an ∷ [])) why → StopIs w.store (InNegation u.store n xs) why
+  pub bit_stops : (w : StoreAndCache) → i < length xs → (why : StoreStop) → StopIs w.store (IsPrefixOfSome v.store.order (odd_at v.store an n m ∷ less_at v.store m an ∷ [])) why → StopIs w.store (InNegation u.store n xs) why
   bit_stops w less why stop =
       let f = function_of u.store n in let a = digits_of u.store xs in
       stop_calls u v w (InNegation u.store n xs) (odd_at v.store an n m ∷ less_at v.store m an ∷ []) (negated f a i ∷ one_carry f a (suc i) ∷ []) place.negates.grows both_same (both_wanted less) why stop
 
-  shows_one : (w : Shared) (b : ℕ) (Are : Property) → Grows v Are w → Denotes w.store b (odd_at v.store an n m) → Shows w.store (ns ++ b ∷ []) (negated (function_of u.store n) (digits_of u.store xs))
+  shows_one : (w : StoreAndCache) (b : ℕ) (Are : Property) → Grows v Are w → Denotes w.store b (odd_at v.store an n m) → Shows w.store (ns ++ b ∷ []) (negated (function_of u.store n) (digits_of u.store xs))
   shows_one w b Are g is =
       let s = negated (function_of u.store n) (digits_of u.store xs) in
       shows_more v w Are ns s b place.negates.grows.sound g place.negates.shows (denotes_as w.store b (odd_at v.store an n m) (s (length ns)) (bit_is ∙ ap s (sym place.at)) is)
@@ -129,7 +129,7 @@ module _ (u v : Shared) (n : ℕ) (xs ns : List ℕ) (m i an : ℕ) (place : IsA
   one_longer : (b : ℕ) → length (ns ++ b ∷ []) ≡ suc i
   one_longer b = omega (arith, length-append ns (b ∷ []), place.at)
 
-  pub negates_more : (w : Shared) (zs : List ℕ) (b l : ℕ) → i < length xs → Grows v (IsPrefixOfSome v.store.order (odd_at v.store an n m ∷ less_at v.store m an ∷ [])) w → Denotes w.store b (odd_at v.store an n m) → Denotes w.store l (less_at v.store m an) → zs ≡ ns ++ b ∷ [] → Negates u n xs w zs l
+  pub negates_more : (w : StoreAndCache) (zs : List ℕ) (b l : ℕ) → i < length xs → Grows v (IsPrefixOfSome v.store.order (odd_at v.store an n m ∷ less_at v.store m an ∷ [])) w → Denotes w.store b (odd_at v.store an n m) → Denotes w.store l (less_at v.store m an) → zs ≡ ns ++ b ∷ [] → Negates u n xs w zs l
   negates_more w zs b l less g is_b is_l made =
       let c = one_carry (function_of u.store n) (digits_of u.store xs) in
       let out : Negates u n xs w (ns ++ b ∷ []) l = record {
@@ -143,15 +143,15 @@ module _ (u v : Shared) (n : ℕ) (xs ns : List ℕ) (m i an : ℕ) (place : IsA
   sign_wanted : i ≡ length xs → (p : Function) → IsPrefixOf u.store.order (negated (function_of u.store n) (digits_of u.store xs) i) p → InNegation u.store n xs p
   sign_wanted last p q = wanted_bit u.store.order (length xs + 1) i (function_of u.store n) (digits_of u.store xs) p (omega (arith, last)) q
 
-  pub sign_grows : (w : Shared) → i ≡ length xs → Grows v (IsPrefixOf v.store.order (odd_at v.store an n m)) w → Grows u (InNegation u.store n xs) w
+  pub sign_grows : (w : StoreAndCache) → i ≡ length xs → Grows v (IsPrefixOf v.store.order (odd_at v.store an n m)) w → Grows u (InNegation u.store n xs) w
   sign_grows w last g =
       grows_call u v w (InNegation u.store n xs) (odd_at v.store an n m) (negated (function_of u.store n) (digits_of u.store xs) i) place.negates.grows g bit_is (sign_wanted last)
 
-  pub sign_stops : (w : Shared) → i ≡ length xs → (why : StoreStop) → StopIs w.store (IsPrefixOf v.store.order (odd_at v.store an n m)) why → StopIs w.store (InNegation u.store n xs) why
+  pub sign_stops : (w : StoreAndCache) → i ≡ length xs → (why : StoreStop) → StopIs w.store (IsPrefixOf v.store.order (odd_at v.store an n m)) why → StopIs w.store (InNegation u.store n xs) why
   sign_stops w last why stop =
       stop_call u v w (InNegation u.store n xs) (odd_at v.store an n m) (negated (function_of u.store n) (digits_of u.store xs) i) place.negates.grows bit_is (sign_wanted last) why stop
 
-  pub negation_done : (w : Shared) (zs : List ℕ) (b : ℕ) → i ≡ length xs → length xs ≤ 130 → Grows v (IsPrefixOf v.store.order (odd_at v.store an n m)) w → Denotes w.store b (odd_at v.store an n m) → zs ≡ ns ++ b ∷ [] → IsNegation u.store w.store n xs zs
+  pub negation_done : (w : StoreAndCache) (zs : List ℕ) (b : ℕ) → i ≡ length xs → length xs ≤ 130 → Grows v (IsPrefixOf v.store.order (odd_at v.store an n m)) w → Denotes w.store b (odd_at v.store an n m) → zs ≡ ns ++ b ∷ [] → IsNegation u.store w.store n xs zs
   negation_done w zs b long few_x g is made =
       let f = function_of u.store n in let a = digits_of u.store xs in
       let k = length xs - 1 in

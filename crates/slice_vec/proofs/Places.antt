@@ -11,7 +11,7 @@ use Rattle.diagram_model.specs.Stores.{Diagram, IsLive, IsSound, Extends, KeepsF
 use Rattle.diagram_model.proofs.Growing.{function_on}
 use Rattle.diagram_model.proofs.Values.{value-small}
 use Rattle.diagram_ops.specs.Connectives.{connective, connected}
-use Rattle.diagram_ops.specs.Diagrams.{Shared, IsConsistent, with_answer}
+use Rattle.diagram_ops.specs.Diagrams.{StoreAndCache, IsConsistent, with_answer}
 use Rattle.diagram_ops.specs.Made.{Property, MakesOnly, StopIs}
 use Rattle.diagram_ops.proofs.Right.{after_capacity}
 use Rattle.slice_vec.specs.declared.place.Pair.{Pair}
@@ -51,11 +51,11 @@ unfolding connected majority
 connected-majority f g h = fun_ext (λ x. majority_table (f x) (g x) (h x))
 
 -- a call of a connective, by another name of its function
-pub call_grows : (v w : Shared) (k : Key) (o : Result Node StoreStop) (f r : Function) → f ≡ r → IsConsistent w → Extends v.store w.store → KeepsFunctions v.store w.store → IfOk o (λ n. w.cache ≡ with_answer v.cache k n.0) → OnErr o (w.cache ≡ v.cache) → length v.cache.entries ≤ length w.cache.entries → MakesOnly v.store w.store (IsPrefixOf v.store.order f) → Grows v (IsPrefixOf v.store.order r) w
+pub call_grows : (v w : StoreAndCache) (k : Key) (o : Result Node StoreStop) (f r : Function) → f ≡ r → IsConsistent w → Extends v.store w.store → KeepsFunctions v.store w.store → IfOk o (λ n. w.cache ≡ with_answer v.cache k n.0) → OnErr o (w.cache ≡ v.cache) → length v.cache.entries ≤ length w.cache.entries → MakesOnly v.store w.store (IsPrefixOf v.store.order f) → Grows v (IsPrefixOf v.store.order r) w
 call_grows v w k o f r same sound extends functions cache stopped cached made = rw (sym same) (record { sound = sound; extends = extends; functions = functions; capacity = after_capacity v.cache w.cache k o cache stopped; cached = cached; made = made })
 
 -- a call that leaves the cache as it was
-pub keeping_grows : (v w : Shared) (Is : Property) → IsConsistent w → Extends v.store w.store → KeepsFunctions v.store w.store → w.cache ≡ v.cache → MakesOnly v.store w.store Is → Grows v Is w
+pub keeping_grows : (v w : StoreAndCache) (Is : Property) → IsConsistent w → Extends v.store w.store → KeepsFunctions v.store w.store → w.cache ≡ v.cache → MakesOnly v.store w.store Is → Grows v Is w
 keeping_grows v w Is sound extends functions cache made = record {
   sound = sound;
   extends = extends;
@@ -137,7 +137,7 @@ pub true_function : (d : Diagram) → IsSound d → function_of d 1 ≡ (λ x. t
 unfolding function_of
 true_function d s = fun_ext (λ x. value-small d.slots (length d.order) d.order 1 s.diagram (omega arith) x)
 
-pub majority_on : (v w : Shared) (Is : Property) (a b c : ℕ) → IsConsistent v → Grows v Is w → IsLive v.store a → IsLive v.store b → IsLive v.store c → majority_at w.store a b c ≡ majority_at v.store a b c
+pub majority_on : (v w : StoreAndCache) (Is : Property) (a b c : ℕ) → IsConsistent v → Grows v Is w → IsLive v.store a → IsLive v.store b → IsLive v.store c → majority_at w.store a b c ≡ majority_at v.store a b c
 majority_on v w Is a b c s g la lb lc =
     let on = λ (n : ℕ) (live : IsLive v.store n). function_on v.store w.store n s.store g.sound.store g.extends live in
     majority_same (function_of w.store a) (function_of w.store b) (function_of w.store c) (function_of v.store a) (function_of v.store b) (function_of v.store c) (on a la) (on b lb) (on c lc)
@@ -159,7 +159,7 @@ connected-less d f g s =
 pub less_same : (f g f2 g2 : Function) → f ≡ f2 → g ≡ g2 → less f g ≡ less f2 g2
 less_same f g f2 g2 ef eg = ap (λ (w : Function). less w g) ef ∙ ap (λ (w : Function). less f2 w) eg
 
-pub less_on : (v w : Shared) (Is : Property) (f g : ℕ) → IsConsistent v → Grows v Is w → IsLive v.store f → IsLive v.store g → less_at w.store f g ≡ less_at v.store f g
+pub less_on : (v w : StoreAndCache) (Is : Property) (f g : ℕ) → IsConsistent v → Grows v Is w → IsLive v.store f → IsLive v.store g → less_at w.store f g ≡ less_at v.store f g
 less_on v w Is f g s h lf lg =
     let on = λ (n : ℕ) (live : IsLive v.store n). function_on v.store w.store n s.store h.sound.store h.extends live in
     less_same (function_of w.store f) (function_of w.store g) (function_of v.store f) (function_of v.store g) (on f lf) (on g lg)

@@ -3,7 +3,7 @@ use Rattle.std.proofs.Common.{◌≡◌, ℕ, suc, ◌+◌, ◌-◌, ◌<◌, �
 use Rattle.node_store.specs.declared.node.StoreStop.{StoreStop}
 use Rattle.diagram_model.specs.Functions.{Function, IsPrefixOf}
 use Rattle.diagram_model.specs.Stores.{Diagram, function_of}
-use Rattle.diagram_ops.specs.Diagrams.{Shared, IsConsistent}
+use Rattle.diagram_ops.specs.Diagrams.{StoreAndCache, IsConsistent}
 use Rattle.diagram_ops.specs.Made.{Property, StopIs, IsPrefixOfSome}
 use Rattle.diagram_ops.specs.Bounds.{joint_size_of, TakesAtMost}
 use Rattle.slice_vec.specs.Bounds.{adding}
@@ -22,12 +22,12 @@ abbrev pub place_steps : Diagram → List ℕ → List ℕ → ℕ → ℕ
 place_steps d xs ys i = adding d (digits_of d xs) (digits_of d ys) i + adding d (digits_of d xs) (digits_of d ys) i
 
 -- the sum so far, and the carry
-pub record Ripples (u : Shared) (xs ys : List ℕ) (v : Shared) (ns : List ℕ) (m : ℕ) : Type 0 where
+pub record Ripples (u : StoreAndCache) (xs ys : List ℕ) (v : StoreAndCache) (ns : List ℕ) (m : ℕ) : Type 0 where
   pub grows : Grows u (InSum u.store xs ys) v
   pub shows : Shows v.store ns (sum (digits_of u.store xs) (digits_of u.store ys))
   pub carries : Denotes v.store m (carry (digits_of u.store xs) (digits_of u.store ys) (length ns))
 
-pub ripples_none : (u : Shared) (xs ys : List ℕ) → IsConsistent u → Ripples u xs ys u [] 0
+pub ripples_none : (u : StoreAndCache) (xs ys : List ℕ) → IsConsistent u → Ripples u xs ys u [] 0
 unfolding carry
 ripples_none u xs ys s = record {
   grows = grows_none u (InSum u.store xs ys) s;
@@ -36,7 +36,7 @@ ripples_none u xs ys s = record {
 }
 
 -- the bits of both at place i, and the carry
-pub record IsAtPlace (u v : Shared) (xs ys ns : List ℕ) (m i an bn : ℕ) : Type 0 where
+pub record IsAtPlace (u v : StoreAndCache) (xs ys ns : List ℕ) (m i an bn : ℕ) : Type 0 where
   pub began : IsConsistent u
   pub stands_x : StandsIn u.store xs
   pub stands_y : StandsIn u.store ys
@@ -51,7 +51,7 @@ wanted_sum vs w i a b p less h = some_right vs (first_bits w (carry a b)) (first
 wanted_carry : (vs : List ℕ) (w i : ℕ) (a b : Digits) (p : Function) → i < w → IsPrefixOf vs (carry a b i) p → IsPrefixOfSome vs (sum_functions w a b) p
 wanted_carry vs w i a b p less h = some_left vs (first_bits w (carry a b)) (first_bits w (sum a b)) p (some_bit vs w i (carry a b) p less h)
 
-module _ (u v : Shared) (xs ys ns : List ℕ) (m i an bn : ℕ) (place : IsAtPlace u v xs ys ns m i an bn) where
+module _ (u v : StoreAndCache) (xs ys ns : List ℕ) (m i an bn : ℕ) (place : IsAtPlace u v xs ys ns m i an bn) where
   pub a_denotes : Denotes v.store an (digits_of u.store xs i)
   a_denotes = bit_denotes u v (InSum u.store xs ys) xs i an place.began place.ripples.grows place.stands_x place.a_is
 
@@ -68,10 +68,10 @@ module _ (u v : Shared) (xs ys ns : List ℕ) (m i an bn : ℕ) (place : IsAtPla
       let a = digits_of u.store xs in let b = digits_of u.store ys in
       joint_as u.store v.store (function_of v.store an) (function_of v.store bn) (function_of v.store m) (a i) (b i) (carry a b i) place.ripples.grows.extends.order a_denotes.is b_denotes.is carry_here
 
-  pub both_steps : (w : Shared) (s t : ℕ) → TakesAtMost (joint_size_of v.store an bn m + joint_size_of v.store an bn m) v.store w.store s t → TakesAtMost (place_steps u.store xs ys i) v.store w.store s t
+  pub both_steps : (w : StoreAndCache) (s t : ℕ) → TakesAtMost (joint_size_of v.store an bn m + joint_size_of v.store an bn m) v.store w.store s t → TakesAtMost (place_steps u.store xs ys i) v.store w.store s t
   both_steps w s t h = steps_as (joint_size_of v.store an bn m + joint_size_of v.store an bn m) (place_steps u.store xs ys i) v.store w.store s t (ap (λ j. j + j) place_joint) h
 
-  pub top_steps : (n : ℕ) (w : Shared) (s t : ℕ) → i ≡ n → TakesAtMost (joint_size_of v.store an bn m) v.store w.store s t → TakesAtMost (adding u.store (digits_of u.store xs) (digits_of u.store ys) n) v.store w.store s t
+  pub top_steps : (n : ℕ) (w : StoreAndCache) (s t : ℕ) → i ≡ n → TakesAtMost (joint_size_of v.store an bn m) v.store w.store s t → TakesAtMost (adding u.store (digits_of u.store xs) (digits_of u.store ys) n) v.store w.store s t
   top_steps n w s t same h =
       let a = digits_of u.store xs in let b = digits_of u.store ys in
       steps_as (joint_size_of v.store an bn m) (adding u.store a b n) v.store w.store s t (place_joint ∙ ap (adding u.store a b) same) h
@@ -95,17 +95,17 @@ module _ (u v : Shared) (xs ys ns : List ℕ) (m i an bn : ℕ) (place : IsAtPla
       (λ p q. wanted_carry u.store.order (sum_width xs ys) (suc i) a b p less q)
 
   -- a place before the last
-  pub place_grows : (w : Shared) → suc i < sum_width xs ys → Grows v (IsPrefixOfSome v.store.order (odd_at v.store an bn m ∷ majority_at v.store an bn m ∷ [])) w → Grows u (InSum u.store xs ys) w
+  pub place_grows : (w : StoreAndCache) → suc i < sum_width xs ys → Grows v (IsPrefixOfSome v.store.order (odd_at v.store an bn m ∷ majority_at v.store an bn m ∷ [])) w → Grows u (InSum u.store xs ys) w
   place_grows w less g =
       let a = digits_of u.store xs in let b = digits_of u.store ys in
       grows_calls u v w (InSum u.store xs ys) (odd_at v.store an bn m ∷ majority_at v.store an bn m ∷ []) (sum a b i ∷ carry a b (suc i) ∷ []) place.ripples.grows g both_same (both_wanted less)
 
-  pub place_stops : (w : Shared) → suc i < sum_width xs ys → (why : StoreStop) → StopIs w.store (IsPrefixOfSome v.store.order (odd_at v.store an bn m ∷ majority_at v.store an bn m ∷ [])) why → StopIs w.store (InSum u.store xs ys) why
+  pub place_stops : (w : StoreAndCache) → suc i < sum_width xs ys → (why : StoreStop) → StopIs w.store (IsPrefixOfSome v.store.order (odd_at v.store an bn m ∷ majority_at v.store an bn m ∷ [])) why → StopIs w.store (InSum u.store xs ys) why
   place_stops w less why stop =
       let a = digits_of u.store xs in let b = digits_of u.store ys in
       stop_calls u v w (InSum u.store xs ys) (odd_at v.store an bn m ∷ majority_at v.store an bn m ∷ []) (sum a b i ∷ carry a b (suc i) ∷ []) place.ripples.grows both_same (both_wanted less) why stop
 
-  shows_one : (w : Shared) (n : ℕ) (Are : Property) → Grows v Are w → Denotes w.store n (odd_at v.store an bn m) → Shows w.store (ns ++ n ∷ []) (sum (digits_of u.store xs) (digits_of u.store ys))
+  shows_one : (w : StoreAndCache) (n : ℕ) (Are : Property) → Grows v Are w → Denotes w.store n (odd_at v.store an bn m) → Shows w.store (ns ++ n ∷ []) (sum (digits_of u.store xs) (digits_of u.store ys))
   shows_one w n Are g is =
       let s = sum (digits_of u.store xs) (digits_of u.store ys) in
       shows_more v w Are ns s n place.ripples.grows.sound g place.ripples.shows (denotes_as w.store n (odd_at v.store an bn m) (s (length ns)) (place_sum ∙ ap s (sym place.at)) is)
@@ -113,7 +113,7 @@ module _ (u v : Shared) (xs ys ns : List ℕ) (m i an bn : ℕ) (place : IsAtPla
   one_longer : (n : ℕ) → length (ns ++ n ∷ []) ≡ suc i
   one_longer n = omega (arith, length-append ns (n ∷ []), place.at)
 
-  pub ripples_more : (w : Shared) (zs : List ℕ) (n l : ℕ) → suc i < sum_width xs ys → Grows v (IsPrefixOfSome v.store.order (odd_at v.store an bn m ∷ majority_at v.store an bn m ∷ [])) w → Denotes w.store n (odd_at v.store an bn m) → Denotes w.store l (majority_at v.store an bn m) → zs ≡ ns ++ n ∷ [] → Ripples u xs ys w zs l
+  pub ripples_more : (w : StoreAndCache) (zs : List ℕ) (n l : ℕ) → suc i < sum_width xs ys → Grows v (IsPrefixOfSome v.store.order (odd_at v.store an bn m ∷ majority_at v.store an bn m ∷ [])) w → Denotes w.store n (odd_at v.store an bn m) → Denotes w.store l (majority_at v.store an bn m) → zs ≡ ns ++ n ∷ [] → Ripples u xs ys w zs l
   ripples_more w zs n l less g is_n is_l made =
       let c = carry (digits_of u.store xs) (digits_of u.store ys) in
       let out : Ripples u xs ys w (ns ++ n ∷ []) l = record {
@@ -127,15 +127,15 @@ module _ (u v : Shared) (xs ys ns : List ℕ) (m i an bn : ℕ) (place : IsAtPla
   top_wanted : i < sum_width xs ys → (p : Function) → IsPrefixOf u.store.order (sum (digits_of u.store xs) (digits_of u.store ys) i) p → InSum u.store xs ys p
   top_wanted less p q = wanted_sum u.store.order (sum_width xs ys) i (digits_of u.store xs) (digits_of u.store ys) p less q
 
-  pub top_grows : (w : Shared) → i < sum_width xs ys → Grows v (IsPrefixOf v.store.order (odd_at v.store an bn m)) w → Grows u (InSum u.store xs ys) w
+  pub top_grows : (w : StoreAndCache) → i < sum_width xs ys → Grows v (IsPrefixOf v.store.order (odd_at v.store an bn m)) w → Grows u (InSum u.store xs ys) w
   top_grows w less g =
       grows_call u v w (InSum u.store xs ys) (odd_at v.store an bn m) (sum (digits_of u.store xs) (digits_of u.store ys) i) place.ripples.grows g place_sum (top_wanted less)
 
-  pub top_stops : (w : Shared) → i < sum_width xs ys → (why : StoreStop) → StopIs w.store (IsPrefixOf v.store.order (odd_at v.store an bn m)) why → StopIs w.store (InSum u.store xs ys) why
+  pub top_stops : (w : StoreAndCache) → i < sum_width xs ys → (why : StoreStop) → StopIs w.store (IsPrefixOf v.store.order (odd_at v.store an bn m)) why → StopIs w.store (InSum u.store xs ys) why
   top_stops w less why stop =
       stop_call u v w (InSum u.store xs ys) (odd_at v.store an bn m) (sum (digits_of u.store xs) (digits_of u.store ys) i) place.ripples.grows place_sum (top_wanted less) why stop
 
-  pub sum_done : (w : Shared) (zs : List ℕ) (n : ℕ) → i ≡ max (length xs) (length ys) → length xs ≤ 130 → length ys ≤ 130 → Grows v (IsPrefixOf v.store.order (odd_at v.store an bn m)) w → Denotes w.store n (odd_at v.store an bn m) → zs ≡ ns ++ n ∷ [] → IsSum u.store w.store xs ys zs
+  pub sum_done : (w : StoreAndCache) (zs : List ℕ) (n : ℕ) → i ≡ max (length xs) (length ys) → length xs ≤ 130 → length ys ≤ 130 → Grows v (IsPrefixOf v.store.order (odd_at v.store an bn m)) w → Denotes w.store n (odd_at v.store an bn m) → zs ≡ ns ++ n ∷ [] → IsSum u.store w.store xs ys zs
   sum_done w zs n wide few_x few_y g is made =
       let a = digits_of u.store xs in let b = digits_of u.store ys in
       let k = i - 1 in

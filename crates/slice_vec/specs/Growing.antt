@@ -2,12 +2,12 @@
 use Rattle.std.specs.Prelude.{◌≡◌, ℕ, ◌≤◌, length}
 use Rattle.diagram_model.specs.Functions.{Function}
 use Rattle.diagram_model.specs.Stores.{Diagram, IsLive, Extends, KeepsFunctions, function_of}
-use Rattle.diagram_ops.specs.Diagrams.{Shared, IsConsistent}
+use Rattle.diagram_ops.specs.Diagrams.{StoreAndCache, IsConsistent}
 use Rattle.diagram_ops.specs.Made.{Property, MakesOnly}
 
 -- Each node made denotes a function of this kind. All nodes stay with their functions, each entry of the
 -- cache is right, and there are no fewer entries than before.
-pub record Grows (old : Shared) (Is : Property) (new : Shared) : Type 0 where
+pub record Grows (old : StoreAndCache) (Is : Property) (new : StoreAndCache) : Type 0 where
   pub sound : IsConsistent new
   pub extends : Extends old.store new.store
   pub functions : KeepsFunctions old.store new.store

@@ -3,7 +3,7 @@ use Rattle.std.proofs.Common.{◌≡◌, ℕ, Bool, List, length, Option, sym, �
 use Rattle.diagram_model.specs.Stores.{Diagram}
 use Rattle.circuit_model.specs.Working.{Scaled}
 use Rattle.amp_dense.specs.Standing.{vector}
-use Rattle.diagram_ops.specs.Diagrams.{Shared}
+use Rattle.diagram_ops.specs.Diagrams.{StoreAndCache}
 use Rattle.probabilities.specs.Weighing.{weight_at}
 use Rattle.probabilities.specs.Possible.{IsNextOutcome, NoOutcomeAfter}
 use Rattle.slice_quad.specs.declared.quad.SliceQuad.{SliceQuad}
@@ -39,15 +39,15 @@ module _ (d : Diagram) (q : SliceQuad) (w : Scaled) (n : ℕ) (shows : Shows d q
     none_shown h y long after x size is = entry_shown x (size ∙ len) ∙ h y long after x size is
 
 -- the diagrams and the integers that are read of a state are those that show its vector
-module _ (s : State) (d : Shared) (q : SliceQuad) (is_d : d ≡ s.diagrams) (is_q : q ≡ s.quad) (size : length s.diagrams.store.order ≡ length s.input) (shows : Shows s.diagrams.store s.quad (vector (standing_of s))) where
+module _ (s : State) (d : StoreAndCache) (q : SliceQuad) (is_d : d ≡ s.diagrams) (is_q : q ≡ s.quad) (size : length s.diagrams.store.order ≡ length s.input) (shows : Shows s.diagrams.store s.quad (vector (standing_of s))) where
   pub read_size : length d.store.order ≡ length s.input
-  read_size = ap (λ (e : Shared). length e.store.order) is_d ∙ size
+  read_size = ap (λ (e : StoreAndCache). length e.store.order) is_d ∙ size
 
   pub read_stands : Stands s.diagrams.store s.quad → Stands d.store q
-  read_stands h = subst (λ (e : Shared). Stands e.store q) (sym is_d) (subst (Stands s.diagrams.store) (sym is_q) h)
+  read_stands h = subst (λ (e : StoreAndCache). Stands e.store q) (sym is_d) (subst (Stands s.diagrams.store) (sym is_q) h)
 
   pub read_shows : Shows d.store q (vector (standing_of s))
-  read_shows = subst (λ (e : Shared). Shows e.store q (vector (standing_of s))) (sym is_d) (subst (λ r. Shows s.diagrams.store r (vector (standing_of s))) (sym is_q) shows)
+  read_shows = subst (λ (e : StoreAndCache). Shows e.store q (vector (standing_of s))) (sym is_d) (subst (λ r. Shows s.diagrams.store r (vector (standing_of s))) (sym is_q) shows)
 
   pub read_weight : (p : List (Option Bool)) → length p ≡ length s.input → weight_at (entries_in d.store q.four) p ≡ weight_at (vector (standing_of s)).entries p
   read_weight p len = weight_shown d.store q (vector (standing_of s)) (length s.input) read_shows read_size p len

@@ -16,7 +16,7 @@ use Rattle.circuit_model.proofs.VectorLemmas.{same_bits-refl, same_bits-true}
 use Rattle.circuit_model.proofs.WorkingLemmas.{work-last, step_exponent}
 use Rattle.diagram_model.specs.Functions.{bit}
 use Rattle.diagram_model.specs.Stores.{Diagram}
-use Rattle.diagram_ops.specs.Diagrams.{Shared, IsConsistent}
+use Rattle.diagram_ops.specs.Diagrams.{StoreAndCache, IsConsistent}
 use Rattle.amp_dense.specs.Nonzero as amplitudes
 use Rattle.amp_dense.specs.Rules.{Settings, AreRules}
 use Rattle.amp_dense.specs.Standing.{Fits}
@@ -48,10 +48,10 @@ start_shows e input q h size = record { exponent = sym h.exponent; entries = λ 
 pub size_of_order : (order : List ℕ) (n : ℕ) → order ≡ range_with_len 0 n → length order ≡ n
 size_of_order order n e = ap (λ (l : List ℕ). length l) e ∙ length-range_with_len 0 n
 
-abbrev pub state_with : List Bool → Settings → List Gate → Shared → SliceQuad → State
+abbrev pub state_with : List Bool → Settings → List Gate → StoreAndCache → SliceQuad → State
 state_with input rules gates d q = record { input = input; rules = rules; gates = gates; diagrams = d; quad = q }
 
-pub kept_start : (input : List Bool) (rules : Settings) (gates : List Gate) (d : Shared) (q : SliceQuad) → length input ≤ 64 → AreRules rules → gates ≡ [] → IsConsistent d
+pub kept_start : (input : List Bool) (rules : Settings) (gates : List Gate) (d : StoreAndCache) (q : SliceQuad) → length input ≤ 64 → AreRules rules → gates ≡ [] → IsConsistent d
     → d.store.order ≡ range_with_len 0 (length input) → d.store.limit ≡ rules.nodes → IsStart d.store input q → IsKept (state_with input rules gates d q)
 kept_start input rules gates d q few are none sound order limit h = rw none begun
   where
@@ -71,7 +71,7 @@ kept_start input rules gates d q few are none sound order limit h = rw none begu
     }
 
 -- ---- one gate more
-pub kept_next : (s : State) (g : Gate) (gates : List Gate) (v : Shared) (r : SliceQuad) → IsKept s → IsOn (length s.input) g → length s.gates < 2000000 → gates ≡ s.gates ++ g ∷ []
+pub kept_next : (s : State) (g : Gate) (gates : List Gate) (v : StoreAndCache) (r : SliceQuad) → IsKept s → IsOn (length s.input) g → length s.gates < 2000000 → gates ≡ s.gates ++ g ∷ []
     → IsConsistent v → v.store.order ≡ s.diagrams.store.order → v.store.limit ≡ s.diagrams.store.limit → Stands v.store r
     → Shows v.store r (step (length s.diagrams.store.order) (work s.gates s.input) g) → length r.four.a ≤ s.rules.width → r.kept ≡ s.quad.kept
     → IsKept (state_with s.input s.rules gates v r)
@@ -113,7 +113,7 @@ kept_next s g gates v r h on few more sound order limit stands shows narrow kept
     }
 
 -- after a stop
-pub kept_stop : (s : State) (v : Shared) → IsKept s → IsConsistent v → v.store.order ≡ s.diagrams.store.order → v.store.limit ≡ s.diagrams.store.limit → Stands v.store s.quad
+pub kept_stop : (s : State) (v : StoreAndCache) → IsKept s → IsConsistent v → v.store.order ≡ s.diagrams.store.order → v.store.limit ≡ s.diagrams.store.limit → Stands v.store s.quad
     → Shows v.store s.quad (work s.gates s.input) → IsKept (state_with s.input s.rules s.gates v s.quad)
 kept_stop s v h sound order limit stands shows = record {
   few_qubits = h.few_qubits;

@@ -8,7 +8,7 @@ use Rattle.amp_dense.specs.Rules.{Settings}
 use Rattle.amp_dense.specs.Standing.{Standing, Policy, vector, with_gate}
 use Rattle.diagram_model.specs.Functions.{Function}
 use Rattle.diagram_model.specs.Size.{size}
-use Rattle.diagram_ops.specs.Diagrams.{Shared, IsConsistent}
+use Rattle.diagram_ops.specs.Diagrams.{StoreAndCache, IsConsistent}
 use Rattle.diagram_ops.specs.Made.{Property, IsPrefixOfSome}
 use Rattle.slice_quad.specs.declared.quad.SliceQuad.{SliceQuad}
 use Rattle.slice_quad.specs.Vectors.{Stands}
@@ -21,7 +21,7 @@ pub record State : Type 0 where
   pub input : List Bool
   pub rules : Settings
   pub gates : List Gate
-  pub diagrams : Shared
+  pub diagrams : StoreAndCache
   pub quad : SliceQuad
 
 -- what the state stands by

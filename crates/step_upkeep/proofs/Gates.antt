@@ -5,7 +5,7 @@ use Rattle.gate_set.specs.declared.gate.Gate.{Gate}
 use Rattle.circuit_model.specs.Working.{Scaled}
 use Rattle.diagram_model.specs.Functions.{Function, bit}
 use Rattle.diagram_model.specs.Stores.{Diagram, IsSound, function_of}
-use Rattle.diagram_ops.specs.Diagrams.{Shared}
+use Rattle.diagram_ops.specs.Diagrams.{StoreAndCache}
 use Rattle.diagram_ops.specs.Made.{IsPrefixOfSome}
 use Rattle.node_reclaim.specs.Reclaims.{HoldsOnly}
 use Rattle.slice_quad.specs.declared.four.Four.{Four}
@@ -47,7 +47,7 @@ gate_holds d e q w g s sound shown is h =
     holds_wider e (IsWork d s q) (IsGateWork d q g w.entries) (λ p k. subst (λ (fs : List Function). IsPrefixOfSome d.order fs p) (gate_list d q w g s sound shown is) k) h
 
 -- the working vector stays where the four's vector stays
-pub shows_kept : (u v : Shared) (q : SliceQuad) (w : Scaled) → KeepsQuad u q v → Shows u.store q w → Shows v.store q w
+pub shows_kept : (u v : StoreAndCache) (q : SliceQuad) (w : Scaled) → KeepsQuad u q v → Shows u.store q w → Shows v.store q w
 shows_kept u v q w k h =
     let size : length v.store.order ≡ length u.store.order = ap (λ (l : List ℕ). length l) k.order in
     record { exponent = h.exponent; entries = λ x len. h.entries x (len ∙ size) ∙ ap (λ (f : Vector). f (bit x)) (sym k.vector) }

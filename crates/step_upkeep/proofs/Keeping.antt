@@ -6,7 +6,7 @@ use Rattle.diagram_model.specs.Reach.{is_in}
 use Rattle.diagram_model.specs.Size.{size}
 use Rattle.diagram_model.specs.Stores.{Diagram, IsLive, IsSound, KeepsFunctions, held, function_of}
 use Rattle.diagram_model.proofs.Growing.{function_on}
-use Rattle.diagram_ops.specs.Diagrams.{Shared, IsConsistent}
+use Rattle.diagram_ops.specs.Diagrams.{StoreAndCache, IsConsistent}
 use Rattle.diagram_ops.specs.Made.{Property, IsPrefixOfSome}
 use Rattle.node_store.specs.declared.node.Node.{Node}
 use Rattle.node_store.specs.Marks.{numbers}
@@ -47,10 +47,10 @@ vector_kept d e q kept h = fun_ext (λ x. at x)
 pub integers_of : (d : Diagram) (q : SliceQuad) → Stands d q → AreIntegers d (length q.four.a) q.four
 integers_of d q h = whole_of d q h q.width_b q.width_c q.width_d
 
-pub keeps_same : (u : Shared) (q : SliceQuad) → IsConsistent u → Stands u.store q → KeepsQuad u q u
+pub keeps_same : (u : StoreAndCache) (q : SliceQuad) → IsConsistent u → Stands u.store q → KeepsQuad u q u
 keeps_same u q sound h = record { sound = sound; order = refl; limit = refl; capacity = refl; stands = h; vector = refl; function = refl }
 
-pub keeps_then : (u v w : Shared) (q : SliceQuad) → KeepsQuad u q v → KeepsQuad v q w → KeepsQuad u q w
+pub keeps_then : (u v w : StoreAndCache) (q : SliceQuad) → KeepsQuad u q v → KeepsQuad v q w → KeepsQuad u q w
 keeps_then u v w q a b = record {
   sound = b.sound;
   order = b.order ∙ a.order;
@@ -66,7 +66,7 @@ keeps_then u v w q a b = record {
 pub all_live : (d : Diagram) (q : SliceQuad) (roots : List Node) → numbers roots ≡ roots_of q → Stands d q → All (λ (n : Node). IsLive d n.0) roots
 all_live d q roots are h k z lt = roots_live d q h (get_or roots k z).0 (subst (λ (l : List ℕ). is_in l (get_or roots k z).0 ≡ true) are (root_in roots k z lt))
 
-pub keeps_reclaimed : (u v : Shared) (q : SliceQuad) (roots : List Node) → numbers roots ≡ roots_of q → Stands u.store q → All (λ (n : Node). IsLive v.store n.0) roots → KeepsFunctions v.store u.store
+pub keeps_reclaimed : (u v : StoreAndCache) (q : SliceQuad) (roots : List Node) → numbers roots ≡ roots_of q → Stands u.store q → All (λ (n : Node). IsLive v.store n.0) roots → KeepsFunctions v.store u.store
     → IsConsistent v → v.store.order ≡ u.store.order → v.store.limit ≡ u.store.limit → v.cache.capacity ≡ u.cache.capacity → KeepsQuad u q v
 keeps_reclaimed u v q roots are h live kept sound order limit capacity =
     let stands : Stands v.store q = live_stands u.store v.store q h (λ n is. in_nodes (IsLive v.store) roots live n (subst (λ (l : List ℕ). is_in l n ≡ true) (sym are) is)) in
@@ -81,14 +81,14 @@ keeps_reclaimed u v q roots are h live kept sound order limit capacity =
     }
 
 -- only its functions are left
-pub holds_reclaimed : (u v : Shared) (q : SliceQuad) (roots : List Node) → numbers roots ≡ roots_of q → IsConsistent u → IsConsistent v → KeepsReached u.store v.store roots → KeepsFunctions v.store u.store
+pub holds_reclaimed : (u v : StoreAndCache) (q : SliceQuad) (roots : List Node) → numbers roots ≡ roots_of q → IsConsistent u → IsConsistent v → KeepsReached u.store v.store roots → KeepsFunctions v.store u.store
     → HoldsOnly v.store (InQuad u.store q)
 holds_reclaimed u v q roots are su sv left kept =
     reclaimed_holds u.store v.store roots (functions_in u.store q) su.store sv.store left kept
     (λ r is. one_of_map u.store.order (function_of u.store) (roots_of q) r (subst (λ (l : List ℕ). is_in l r ≡ true) are is))
 
 -- ---- nodes that are added
-pub keeps_grown : (u v : Shared) (Is : Property) (q : SliceQuad) → IsConsistent u → Grows u Is v → Stands u.store q → KeepsQuad u q v
+pub keeps_grown : (u v : StoreAndCache) (Is : Property) (q : SliceQuad) → IsConsistent u → Grows u Is v → Stands u.store q → KeepsQuad u q v
 keeps_grown u v Is q sound g h = record {
   sound = g.sound;
   order = g.extends.order;
@@ -99,7 +99,7 @@ keeps_grown u v Is q sound g h = record {
   function = function_on u.store v.store q.kept.0 sound.store g.sound.store g.extends h.kept;
 }
 
-pub holds_grown : (u v : Shared) (Is : Property) → IsConsistent u → Grows u Is v → HoldsOnly u.store Is → HoldsOnly v.store Is
+pub holds_grown : (u v : StoreAndCache) (Is : Property) → IsConsistent u → Grows u Is v → HoldsOnly u.store Is → HoldsOnly v.store Is
 holds_grown u v Is sound g h = made_holds u.store v.store Is sound.store g.sound.store g.extends g.made h
 
 pub holds_wider : (d : Diagram) (Is Are : Property) → ((p : Function) → Is p → Are p) → HoldsOnly d Is → HoldsOnly d Are
@@ -110,19 +110,19 @@ over_list : (vs ws : List ℕ) (fs gs : List Function) (p : Function) → vs ≡
 over_list vs ws fs gs p e f h = subst (λ (l : List ℕ). IsPrefixOfSome l gs p) e (subst (λ (hs : List Function). IsPrefixOfSome vs hs p) f h)
 
 -- they stay the same
-pub work_same : (u v : Shared) (s : Step) (q : SliceQuad) → KeepsQuad u q v → work_in v.store s q ≡ work_in u.store s q
+pub work_same : (u v : StoreAndCache) (s : Step) (q : SliceQuad) → KeepsQuad u q v → work_in v.store s q ≡ work_in u.store s q
 work_same u v s q k =
     let w = length q.four.a in
     ap (λ (f : Function). work_functions w f s (vector_in v.store q.four)) k.function ∙ ap (λ (x : Vector). work_functions w (function_of u.store q.kept.0) s x) k.vector
 
-pub work_back : (u v : Shared) (s : Step) (q : SliceQuad) → KeepsQuad u q v → (p : Function) → IsWork v.store s q p → IsWork u.store s q p
+pub work_back : (u v : StoreAndCache) (s : Step) (q : SliceQuad) → KeepsQuad u q v → (p : Function) → IsWork v.store s q p → IsWork u.store s q p
 work_back u v s q k p h = over_list v.store.order u.store.order (work_in v.store s q) (work_in u.store s q) p k.order (work_same u v s q k) h
 
-pub work_on : (u v : Shared) (s : Step) (q : SliceQuad) → KeepsQuad u q v → (p : Function) → IsWork u.store s q p → IsWork v.store s q p
+pub work_on : (u v : StoreAndCache) (s : Step) (q : SliceQuad) → KeepsQuad u q v → (p : Function) → IsWork u.store s q p → IsWork v.store s q p
 work_on u v s q k p h = over_list u.store.order v.store.order (work_in u.store s q) (work_in v.store s q) p (sym k.order) (sym (work_same u v s q k)) h
 
 -- what is left after a reclaim is among them
-pub reclaimed_wanted : (u : Shared) (d : Diagram) (s : Step) (q : SliceQuad) → Stands u.store q → HoldsOnly d (InQuad u.store q) → HoldsOnly d (IsWork u.store s q)
+pub reclaimed_wanted : (u : StoreAndCache) (d : Diagram) (s : Step) (q : SliceQuad) → Stands u.store q → HoldsOnly d (InQuad u.store q) → HoldsOnly d (IsWork u.store s q)
 reclaimed_wanted u d s q h all = holds_wider d (InQuad u.store q) (IsWork u.store s q) (quad_wanted u.store s q (integers_of u.store q h)) all
 
 -- ---- a full store

@@ -1,6 +1,6 @@
 -- Words of private functions: what one step leaves, and what a step leaves that is tried once more after a reclaim.
 use Rattle.std.specs.Prelude.{◌≡◌, ℕ, ◌+◌, ◌≤◌, Bool, true, false, length, Result, Ok, Err, IfErr, OnOk, OnErr}
-use Rattle.diagram_ops.specs.Diagrams.{Shared}
+use Rattle.diagram_ops.specs.Diagrams.{StoreAndCache}
 use Rattle.node_reclaim.specs.Reclaims.{HoldsOnly}
 use Rattle.slice_vec.specs.Growing.{Grows}
 use Rattle.slice_quad.specs.declared.kind.Step.{Step}
@@ -21,7 +21,7 @@ is_full (Err (quads.Full held)) = true
 is_full (Err quads.OutOfMemory) = false
 
 -- what the step's answer says of the vector or matrix: q before and r after
-pub record IsAnswer (old new : Shared) (s : Step) (q r : SliceQuad) (w : ℕ) (answer : Result (Unit {0}) QuadStop) : Type 0 where
+pub record IsAnswer (old new : StoreAndCache) (s : Step) (q r : SliceQuad) (w : ℕ) (answer : Result (Unit {0}) QuadStop) : Type 0 where
   pub settled : OnOk answer (IsSettled new.store (stepped s (vector_in old.store q.four)) (q.exponent + half_of s) r.four r.exponent)
   pub fits : OnOk answer (FitsWidth w (stepped s (vector_in old.store q.four)))
   pub narrow : OnOk answer (length r.four.a ≤ w)
@@ -31,13 +31,13 @@ pub record IsAnswer (old new : Shared) (s : Step) (q r : SliceQuad) (w : ℕ) (a
   pub stands : Stands new.store r
 
 -- the step was tried once
-pub record IsStepped (old new : Shared) (s : Step) (q r : SliceQuad) (w : ℕ) (answer : Result (Unit {0}) QuadStop) : Type 0 where
+pub record IsStepped (old new : StoreAndCache) (s : Step) (q r : SliceQuad) (w : ℕ) (answer : Result (Unit {0}) QuadStop) : Type 0 where
   pub told : IsAnswer old new s q r w answer
   pub full : IfErr answer (QuadStopIs new.store (IsWork old.store s q))
   pub grows : Grows old (IsWork old.store s q) new
 
 -- the step was tried once, and once more after a reclaim where there were too few nodes
-pub record IsTried (old new : Shared) (s : Step) (q r : SliceQuad) (w : ℕ) (answer : Result (Unit {0}) QuadStop) : Type 0 where
+pub record IsTried (old new : StoreAndCache) (s : Step) (q r : SliceQuad) (w : ℕ) (answer : Result (Unit {0}) QuadStop) : Type 0 where
   pub told : IsAnswer old new s q r w answer
   pub full : IfErr answer (NeedsNodes old.store (work_in old.store s q))
   pub keeps : KeepsQuad old q new

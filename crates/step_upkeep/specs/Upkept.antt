@@ -3,7 +3,7 @@ use Rattle.std.specs.Prelude.{◌≡◌, ◌≤◌, List, length, map}
 use Rattle.diagram_model.specs.Functions.{Function}
 use Rattle.diagram_model.specs.Size.{size}
 use Rattle.diagram_model.specs.Stores.{Diagram, function_of}
-use Rattle.diagram_ops.specs.Diagrams.{Shared, IsConsistent}
+use Rattle.diagram_ops.specs.Diagrams.{StoreAndCache, IsConsistent}
 use Rattle.diagram_ops.specs.Made.{Property, IsPrefixOfSome}
 use Rattle.slice_quad.specs.declared.kind.Step.{Step}
 use Rattle.slice_quad.specs.declared.quad.SliceQuad.{SliceQuad}
@@ -14,7 +14,7 @@ use Rattle.slice_quad.specs.Stepping.{work_functions}
 use Rattle.slice_quad.specs.Vectors.{vector_in, Stands}
 
 -- the vector or matrix q stands in the diagrams as before, whatever nodes they lost or got
-pub record KeepsQuad (old : Shared) (q : SliceQuad) (new : Shared) : Type 0 where
+pub record KeepsQuad (old : StoreAndCache) (q : SliceQuad) (new : StoreAndCache) : Type 0 where
   pub sound : IsConsistent new
   pub order : new.store.order ≡ old.store.order
   pub limit : new.store.limit ≡ old.store.limit

@@ -1,17 +1,21 @@
 -- The places of a table of nodes.
-use Rattle.std.proofs.Common.{◌≡◌, ◌≢◌, ◌⊎◌, ℕ, ◌+◌, ◌<◌, Bool, true, false, eqb, ◌&&◌, List, map, length, arith, set, take, Some, None, inl, inr, refl, sym, ◌∙◌, ap, get_or}
-use Rattle.std.proofs.lemmas.Bool.{cases_eq, and_parts, and_from, eqb-true, eq-eqb, ne_eqb, and_left, and_right}
+use Rattle.std.proofs.Common.{◌≡◌, ◌≢◌, ◌⊎◌, ℕ, ◌+◌, ◌<◌, ◌≤◌, Bool, true, false, eqb, ◌&&◌, List, map, length, arith, set, take, Some, None, inl, inr, refl, sym, ◌∙◌, ap, get_or}
+use Rattle.std.proofs.lemmas.Bool.{cases_eq, cases_lt, and_parts, and_from, eqb-true, eq-eqb, ne_eqb, and_left, and_right}
 use Rattle.std.proofs.lemmas.List.{length-map}
 use Rattle.tables.specs.declared.node_table.Place.{Place}
 use Rattle.tables.specs.declared.node_table.Place.TheVariants.{Free, Removed, Held}
 use Rattle.tables.specs.declared.node_table.NodeTable.TheInside.{Inside}
+use Rattle.tables.specs.declared.probe.Probe.{Probe}
+use Rattle.tables.specs.declared.probe.Probe.TheVariants.{Found, Vacant, Full}
+use Rattle.tables.specs.Searching.{LocateMeans, node_of}
+use Rattle.tables.specs.Seeking.{Sought, IsSeat}
 use Rattle.tables.specs.Stored.{IsStored}
 use Rattle.tables.specs.Probing.{free, gone, holds, entries_of, used_of, at, IsAbsent, IsProbed, IsFirstFree}
 use Rattle.tables.specs.NodeTable.{AreNodes, Children, TableValue, found_in, found, Puts}
 use Rattle.tables.specs.NodePlaces.{slot_of, slots_of, home}
-use Rattle.tables.proofs.Probing.{held}
+use Rattle.tables.proofs.Probing.{held, absent_vacant}
 use Rattle.tables.proofs.Listing.{value_of as value_at, entry_place, found_listed}
-use Rattle.tables.proofs.Searching.{IsTestOf, find_absent, find_found, at_slots}
+use Rattle.tables.proofs.Searching.{IsTestOf, find_absent, find_found, at_slots, absent_full, no_place}
 use Rattle.tables.proofs.Writing.{add_here, add_others, remove_here, remove_others}
 use Rattle.tables.proofs.Copying.{SameEntries, PutsEntry}
 use Rattle.tables.proofs.Copying as copying
@@ -60,7 +64,28 @@ passes_held ps low high i l h n is ne =
 
 -- a table of places, and one place of it written
 abbrev pub value_of : List Place → ℕ → TableValue
-value_of ps room = record { entries = entries_of (slots_of ps); spare = room }
+value_of ps room = record { entries = entries_of (slots_of ps); spare = room; places = slots_of ps }
+
+-- where a node goes, by the places themselves
+pub seat_first : (ps : List Place) (room low high i : ℕ) → IsSeat (value_of ps room) low high i → IsFirstFree (slots_of ps) (low, high) (home (length ps) (low, high)) i
+seat_first ps room low high i seat = rw (length-map ps slot_of) at seat
+
+-- what a search over all places says of the table
+pub sought : (ps : List Place) (room low high : ℕ) (r : Probe) → IsProbed (home (length ps)) (slots_of ps) → used_of (slots_of ps) + room ≤ length ps → LocateMeans slot_of ps (home (length ps) (low, high)) (low, high) r → Sought (value_of ps room) low high r
+sought ps room low high (Found i n) p few h = find_found (is_key low high) (low, high) (key_test low high) (home (length ps)) (slots_of ps) i n p h.1
+sought ps room low high (Vacant i) p few h = (
+  find_absent (is_key low high) (low, high) (key_test low high) (slots_of ps) (absent_vacant (home (length ps)) (slots_of ps) (low, high) i p h),
+  rw (length-map ps slot_of) h,
+)
+sought ps room low high Full p few h = (
+  find_absent (is_key low high) (low, high) (key_test low high) (slots_of ps) (absent_full slot_of Free refl ps (low, high) h),
+  elim (cases_lt 0 room) [ inl some ↦ absurd (no_place slot_of Free refl ps (low, high) room h few some) | inr none ↦ omega (arith, none) ],
+)
+
+pub node_sought : (t : TableValue) (low high : ℕ) (r : Probe) → Sought t low high r → node_of r ≡ found t low high
+node_sought t low high (Found i n) h = sym h
+node_sought t low high (Vacant i) h = sym h.0
+node_sought t low high Full h = sym h.0
 
 pub add_puts : (ps : List Place) (low high node i r t : ℕ) → IsProbed (home (length ps)) (slots_of ps) → IsFirstFree (slots_of ps) (low, high) (home (length ps) (low, high)) i → Puts (value_of ps r) (value_of (set ps i (Held low high node)) t) low high (Some node)
 add_puts ps low high node i r t p first = record {

@@ -1,4 +1,5 @@
--- The places of a table of nodes. Only private functions and proofs use these words.
+-- The places of a table of nodes. Contracts see `home` through `Seeking`; else only private functions and
+-- proofs use these words.
 use Rattle.std.specs.Prelude.{ℕ, ◌+◌, ◌*◌, ◌/◌, ◌%◌, ◌^◌, List, map}
 use Rattle.tables.specs.declared.node_table.Place.{Place}
 use Rattle.tables.specs.declared.node_table.Place.TheVariants.{Free, Removed, Held}

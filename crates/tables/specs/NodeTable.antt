@@ -1,15 +1,18 @@
 -- What contracts see of the held nodes of one variable, by their children.
 use Rattle.std.specs.Prelude.{◌≡◌, ◌≢◌, ◌⊎◌, ℕ, ◌<◌, ◌&&◌, ◌==◌, List, length, slice_index, Option, Some}
 use Rattle.std.specs.Map.{lookup}
+use Rattle.tables.specs.Probing.{Slot}
 
 -- the low and the high child
 abbrev pub Children : Type 0
 Children = ℕ × ℕ
 
--- the nodes by their children, and how many more there is room for
+-- the nodes by their children, how many more there is room for, and the places among which a search
+-- goes (only `Seeking` speaks of these)
 pub record TableValue : Type 0 where
   pub entries : List (Children × ℕ)
   pub spare : ℕ
+  pub places : List (Slot Children)
 
 -- the node with these children
 abbrev pub found_in : List (Children × ℕ) → ℕ → ℕ → Option ℕ

@@ -1,8 +1,14 @@
 -- What a search over places says, for any kind of place: `slot` reads one.
-use Rattle.std.specs.Prelude.{◌≡◌, ℕ, ◌<◌, List, length, map}
+use Rattle.std.specs.Prelude.{◌≡◌, ℕ, ◌<◌, List, length, map, Option, Some, None}
 use Rattle.tables.specs.declared.probe.Probe.{Probe}
 use Rattle.tables.specs.declared.probe.Probe.TheVariants.{Found, Vacant, Full}
 use Rattle.tables.specs.Probing.{Slot, free, holds, at, IsFirstFree, ArePassed}
+
+-- the node at which a search ended
+abbrev pub node_of : Probe → Option ℕ
+node_of (Found i n) = Some n
+node_of (Vacant i) = None
+node_of Full = None
 
 -- what a search for k over a part of the places says
 abbrev pub ProbeMeans : {P K : Type 0} → (P → Slot K) → List P → K → Probe → Type 0

@@ -6,7 +6,7 @@ use Rattle.tables.specs.NodeTable.{TableValue}
 use Rattle.tables.specs.Probing.{IsProbed, used_of, entries_of}
 
 abbrev pub view_of : Inside → TableValue
-view_of a = record { entries = entries_of (slots_of a.places.items); spare = a.room }
+view_of a = record { entries = entries_of (slots_of a.places.items); spare = a.room; places = slots_of a.places.items }
 
 pub record IsStored (a : Inside) : Type 0 where
   pub probed : IsProbed (home (length a.places.items)) (slots_of a.places.items)

@@ -3,7 +3,8 @@ ghost use Rattle.std.specs.Prelude.{◌≡◌, ◌≢◌, ◌⊎◌, ℕ, ◌+�
 ghost use Rattle.tables.specs.NodePlaces.{home, slot_of, slots_of};
 ghost use Rattle.tables.specs.NodeTable.{AreNodes, Children, found, found_in, Puts, SameFound};
 ghost use Rattle.tables.specs.Probing.{IsAbsent, IsProbed, AreApart, free, gone, holds, entries_of, at, used_of};
-ghost use Rattle.tables.specs.Searching.{ProbeMeans, LocateMeans};
+ghost use Rattle.tables.specs.Searching.{ProbeMeans, LocateMeans, node_of};
+ghost use Rattle.tables.specs.Seeking.{Sought, IsSeat};
 
 use crate::probe::{MOST_KEYS, Probe, places_for};
 use std::alloc::{AllocError, Global};
@@ -239,11 +240,16 @@ impl NodeTable {
     pub fn find(&self, low: u32, high: u32) -> Option<u32>
         ensures { result ≡ found self.now low high }
     {
-        match locate(&self.places, low, high) {
-            Probe::Found { node, .. } => Some(node),
-            Probe::Vacant { .. } => None,
-            Probe::Full => None,
-        }
+        self.seek(low, high).node()
+    }
+
+    /// Where the search for the node with these children ends: at the node, or else at the place where
+    /// it goes, if one is free.
+    pub fn seek(&self, low: u32, high: u32) -> Probe
+        ensures node { node_of result ≡ found self.now low high }
+        ensures sought { Sought self.now low high result }
+    {
+        locate(&self.places, low, high)
     }
 
     /// Adds a node that is not there.
@@ -254,31 +260,44 @@ impl NodeTable {
         ensures spare { self.new.spare + 1 ≡ self.old.spare }
         ensures len { length self.new.entries ≡ length self.old.entries + 1 }
     {
-        match self.find_or_add(low, high, node) {
-            None => (),
-            Some(_) => unreachable!(),
+        match self.seek(low, high) {
+            Probe::Vacant { index } => self.put(index, low, high, node),
+            Probe::Found { .. } => unreachable!(),
+            Probe::Full => unreachable!(),
         }
     }
 
-    /// The node with these children; where there is none, `node` becomes it. One search.
-    pub fn find_or_add(&mut self, low: u32, high: u32, node: u32) -> Option<u32>
-        requires room { 0 < self.old.spare }
-        ensures result { result ≡ found self.old low high }
-        ensures found { IfSome result (λ n. self.new ≡ self.old) }
-        ensures puts { IfNone result (Puts self.old self.new low high (Some node)) }
-        ensures spare { IfNone result (self.new.spare + 1 ≡ self.old.spare) }
-        ensures len { IfNone result (length self.new.entries ≡ length self.old.entries + 1) }
+    /// Adds a node that is not there, where the search for it ended. Makes room where there is none, and
+    /// searches again only then.
+    pub fn add_at(&mut self, end: Probe, low: u32, high: u32, node: u32) -> Result<(), AllocError>
+        requires sought { Sought self.old low high end }
+        requires new { found self.old low high ≡ None }
+        ensures puts { OnOk result (Puts self.old self.new low high (Some node)) }
+        ensures len { OnOk result (length self.new.entries ≡ length self.old.entries + 1) }
+        ensures err { OnErr result (self.new ≡ self.old) }
     {
-        match locate(&self.places, low, high) {
-            Probe::Found { node, .. } => Some(node),
-            Probe::Vacant { index } => {
-                self.places[index] = Place::Held { low, high, node };
-                self.room -= 1;
-                self.len += 1;
-                None
+        if let Probe::Vacant { index } = end {
+            if self.room > 0 {
+                self.put(index, low, high, node);
+                return Ok(());
             }
-            Probe::Full => unreachable!(),
         }
+        self.reserve(1)?;
+        self.add(low, high, node);
+        Ok(())
+    }
+
+    /// Puts a node at the place where the search for it ended.
+    fn put(&mut self, index: usize, low: u32, high: u32, node: u32)
+        requires room { 0 < self.old.spare }
+        requires seat { IsSeat self.old low high index }
+        ensures puts { Puts self.old self.new low high (Some node) }
+        ensures spare { self.new.spare + 1 ≡ self.old.spare }
+        ensures len { length self.new.entries ≡ length self.old.entries + 1 }
+    {
+        self.places[index] = Place::Held { low, high, node };
+        self.room -= 1;
+        self.len += 1;
     }
 
     /// Takes a node away. Its place is not free for others before `refresh`.

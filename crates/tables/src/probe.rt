@@ -1,5 +1,6 @@
 //! Where a search over places ends, and how many places a table takes.
-ghost use Rattle.std.specs.Prelude.{◌+◌, ◌/◌, ◌^◌, ◌<◌, ◌≤◌, IfOk};
+ghost use Rattle.std.specs.Prelude.{◌≡◌, ◌+◌, ◌/◌, ◌^◌, ◌<◌, ◌≤◌, IfOk};
+ghost use Rattle.tables.specs.Searching.{node_of};
 
 use std::alloc::AllocError;
 
@@ -15,6 +16,19 @@ pub enum Probe {
     Found { index: usize, node: u32 },
     Vacant { index: usize },
     Full,
+}
+
+impl Probe {
+    /// The node at which the search ended, if it ended at one.
+    pub fn node(self) -> Option<u32>
+        ensures { result ≡ node_of self }
+    {
+        match self {
+            Probe::Found { node, .. } => Some(node),
+            Probe::Vacant { .. } => None,
+            Probe::Full => None,
+        }
+    }
 }
 
 /// How many places a table takes for so many keys: a power of two, at most three quarters of which

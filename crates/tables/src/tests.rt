@@ -25,8 +25,9 @@ fn finds(rt: &impl Abort, table: &NodeTable, thirds: bool) {
 fn added(rt: &impl Abort, table: &mut NodeTable, i: u32)
     requires { i < 3000 }
 {
-    assert!(rt; table.reserve(1).is_ok());
-    assert_eq!(rt; table.find_or_add(i, 2 * i + 1, i + 2), None);
+    let end = table.seek(i, 2 * i + 1);
+    assert_eq!(rt; end.node(), None);
+    assert!(rt; table.add_at(end, i, 2 * i + 1, i + 2).is_ok());
 }
 
 #[test]

@@ -17,7 +17,7 @@ use Rattle.comparison.specs.Products.Step.{left, right}
 use Rattle.comparison.proofs.Working.{work_matrix-last}
 use Rattle.diagram_model.specs.Functions.{Assignment, bit}
 use Rattle.diagram_model.specs.Stores.{Diagram, IsSound, function_of}
-use Rattle.diagram_ops.specs.Diagrams.{Shared, IsConsistent}
+use Rattle.diagram_ops.specs.Diagrams.{StoreAndCache, IsConsistent}
 use Rattle.amp_dense.specs.Rules.{Settings, AreRules}
 use Rattle.slice_quad.specs.declared.kind.Step.{Step as SlicedStep}
 use Rattle.node_store.specs.declared.node.Node.{Node}
@@ -115,10 +115,10 @@ start_shows n e q h = record {
 pub size_of_order : (order : List ℕ) (n : ℕ) → order ≡ range_with_len 0 n → length order ≡ n
 size_of_order order n e = ap (λ (l : List ℕ). length l) e ∙ length-range_with_len 0 n
 
-abbrev pub state_with : ℕ → Settings → List Step → Shared → SliceQuad → State
+abbrev pub state_with : ℕ → Settings → List Step → StoreAndCache → SliceQuad → State
 state_with n rules steps d q = record { qubits = n; rules = rules; steps = steps; diagrams = d; quad = q }
 
-pub kept_start : (n : ℕ) (rules : Settings) (steps : List Step) (d : Shared) (q : SliceQuad) → n ≤ 64 → AreRules rules → steps ≡ [] → IsConsistent d
+pub kept_start : (n : ℕ) (rules : Settings) (steps : List Step) (d : StoreAndCache) (q : SliceQuad) → n ≤ 64 → AreRules rules → steps ≡ [] → IsConsistent d
     → d.store.order ≡ range_with_len 0 (2 * n) → d.store.limit ≡ rules.nodes → IsIdentity d.store n q → IsKept (state_with n rules steps d q)
 kept_start n rules steps d q few are none sound order limit h = rw none begun
   where
@@ -137,7 +137,7 @@ kept_start n rules steps d q few are none sound order limit h = rw none begun
     }
 
 -- ---- one step more
-pub kept_next : (s : State) (t : Step) (steps : List Step) (v : Shared) (r : SliceQuad) → IsKept s → length s.steps < 2000000 → steps ≡ s.steps ++ t ∷ []
+pub kept_next : (s : State) (t : Step) (steps : List Step) (v : StoreAndCache) (r : SliceQuad) → IsKept s → length s.steps < 2000000 → steps ≡ s.steps ++ t ∷ []
     → IsConsistent v → v.store.order ≡ s.diagrams.store.order → v.store.limit ≡ s.diagrams.store.limit → Stands v.store r
     → ShowsMatrix s.qubits v.store r (step_matrix s.qubits (work_matrix s.qubits s.steps) t) → r.exponent ≤ s.quad.exponent + 1 → length r.four.a ≤ s.rules.width
     → KeepsRowEqualsColumn s.qubits v.store r → IsKept (state_with s.qubits s.rules steps v r)
@@ -161,7 +161,7 @@ kept_next s t steps v r h few more sound order limit stands shows over narrow ke
     }
 
 -- after a stop
-pub kept_stop : (s : State) (v : Shared) → IsKept s → IsConsistent v → v.store.order ≡ s.diagrams.store.order → v.store.limit ≡ s.diagrams.store.limit → Stands v.store s.quad
+pub kept_stop : (s : State) (v : StoreAndCache) → IsKept s → IsConsistent v → v.store.order ≡ s.diagrams.store.order → v.store.limit ≡ s.diagrams.store.limit → Stands v.store s.quad
     → ShowsMatrix s.qubits v.store s.quad (work_matrix s.qubits s.steps) → KeepsRowEqualsColumn s.qubits v.store s.quad → IsKept (state_with s.qubits s.rules s.steps v s.quad)
 kept_stop s v h sound order limit stands shows kept = record {
   few_qubits = h.few_qubits;
@@ -177,11 +177,11 @@ kept_stop s v h sound order limit stands shows kept = record {
 }
 
 -- the entries stay where the diagrams keep them
-pub shows_on : (n : ℕ) (u v : Shared) (q : SliceQuad) (w : Scaled) → KeepsQuad u q v → ShowsMatrix n u.store q w → ShowsMatrix n v.store q w
+pub shows_on : (n : ℕ) (u v : StoreAndCache) (q : SliceQuad) (w : Scaled) → KeepsQuad u q v → ShowsMatrix n u.store q w → ShowsMatrix n v.store q w
 shows_on n u v q w g h = record { exponent = h.exponent; entries = λ r c er ec. h.entries r c er ec ∙ ap (λ (f : Vector). f (bit (woven r c))) (sym g.vector) }
 
 -- and so does the kept function
-pub keeps_on : (n : ℕ) (u v : Shared) (q r : SliceQuad) → KeepsQuad u q v → r.kept ≡ q.kept → KeepsRowEqualsColumn n u.store q → KeepsRowEqualsColumn n v.store r
+pub keeps_on : (n : ℕ) (u v : StoreAndCache) (q r : SliceQuad) → KeepsQuad u q v → r.kept ≡ q.kept → KeepsRowEqualsColumn n u.store q → KeepsRowEqualsColumn n v.store r
 keeps_on n u v q r g same h = ap (λ (k : Node). function_of v.store k.0) same ∙ g.function ∙ h
 
 -- ---- what is read

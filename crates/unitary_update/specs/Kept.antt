@@ -12,7 +12,7 @@ use Rattle.amp_dense.specs.Rules.{Settings}
 use Rattle.diagram_model.specs.Functions.{Function}
 use Rattle.diagram_model.specs.Size.{size}
 use Rattle.diagram_model.specs.Stores.{Diagram}
-use Rattle.diagram_ops.specs.Diagrams.{Shared, IsConsistent}
+use Rattle.diagram_ops.specs.Diagrams.{StoreAndCache, IsConsistent}
 use Rattle.slice_quad.specs.declared.kind.Step.{Step as SlicedStep}
 use Rattle.slice_quad.specs.declared.quad.SliceQuad.{SliceQuad}
 use Rattle.slice_quad.specs.Mix.{Vector}
@@ -105,7 +105,7 @@ pub record State : Type 0 where
   pub qubits : ℕ
   pub rules : Settings
   pub steps : List Step
-  pub diagrams : Shared
+  pub diagrams : StoreAndCache
   pub quad : SliceQuad
 
 -- what the matrix stands by

@@ -1,5 +1,5 @@
 use Rattle.std.proofs.Common.{◌≡◌, ◌∙◌, ap, sym, subst}
-use Rattle.diagram_ops.specs.Diagrams.{Shared}
+use Rattle.diagram_ops.specs.Diagrams.{StoreAndCache}
 use Rattle.slice_quad.specs.Fields.{numbers, roots_of}
 use Rattle.step_upkeep.specs.Upkept.{KeepsQuad}
 use Rattle.step_upkeep.proofs.Keeping.{all_live, keeps_same, keeps_reclaimed, holds_reclaimed}
@@ -18,7 +18,7 @@ returns-in_err-roots-clause-keeps c = keeps_same c.args.d.now c.args.q.now c.cac
 pub returns-in_err-freed-clause-keeps : goal.returns-in_err-freed-clause-keeps
 returns-in_err-freed-clause-keeps c =
     let u = c.args.d.now in let q = c.args.q.now in
-    subst (λ (v : Shared). KeepsQuad u q v) (sym c.in_err-freed.ensures.refused) (keeps_same u q c.cached-cached.ensures.sound c.requires)
+    subst (λ (v : StoreAndCache). KeepsQuad u q v) (sym c.in_err-freed.ensures.refused) (keeps_same u q c.cached-cached.ensures.sound c.requires)
 
 pub returns-clause-keeps : goal.returns-clause-keeps
 returns-clause-keeps c =

@@ -1,4 +1,4 @@
-use Rattle.std.proofs.Common.{◌≡◌, ◌+◌, ◌<◌, ℕ, true, false, [], ◌∷◌, get_or}
+use Rattle.std.proofs.Common.{◌+◌, ◌<◌, ℕ, true, false, [], ◌∷◌, get_or}
 use Rattle.diagram_model.specs.Nodes.{follow}
 use Rattle.diagram_model.specs.Stores.{depth}
 use Rattle.node_store.specs.Pairs.{AllCoincide, CoincideAt}
