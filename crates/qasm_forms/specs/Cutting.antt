@@ -1,7 +1,7 @@
 -- Words of the calls on lexemes: their front, and what stands before and after a separator.
+use Prim.Native.Char.{code}
 use Rattle.std.specs.Prelude.{ℕ, Bool, true, false, cond, List, [], ◌∷◌, Option, Some, None}
 use Rattle.std.specs.Borrow.{Bor}
-use Rattle.qasm_lex.specs.Characters.{semicolon, comma}
 use Rattle.qasm_lex.specs.Lexemes.{Lexeme, word, arrow}
 use Rattle.qasm_forms.specs.declared.lexemes.Stop.{Stop}
 use Rattle.qasm_forms.specs.declared.lexemes.Stop.TheVariants.{Semicolon, Comma, To}
@@ -29,8 +29,8 @@ word_at _ = None
 
 -- what separates lexemes
 abbrev pub is_stop : Stop → Lexeme → Bool
-is_stop Semicolon l = is_mark semicolon l
-is_stop Comma l = is_mark comma l
+is_stop Semicolon l = is_mark (code ";") l
+is_stop Comma l = is_mark (code ",") l
 is_stop To arrow = true
 is_stop To _ = false
 

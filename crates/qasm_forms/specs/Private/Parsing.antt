@@ -1,10 +1,10 @@
 -- How the lexemes of a statement before its end are read, step by step.
+use Prim.Native.Char.{code}
 use Rattle.std.specs.Prelude.{ℕ, Bool, true, false, ◌&&◌, cond, List, [], ◌∷◌, Option, Some, None, codes}
 use Rattle.std.specs.List.{list_any}
 use Rattle.std.specs.Str.{bytes_eq}
 use Rattle.std.specs.Borrow.{Bor}
 use Rattle.qasm_forms.specs.declared.lexemes.Stop.TheVariants.{Comma, To}
-use Rattle.qasm_lex.specs.Characters.{opening_parenthesis, closing_parenthesis}
 use Rattle.qasm_lex.specs.Lexemes.{Lexeme, word, real, quoted}
 use Rattle.qasm_forms.specs.Statements.{Argument, Statement, version, include, qubits, bits, barrier, measure, call, left_out, is_mark, is_name}
 use Rattle.qasm_forms.specs.Private.Fronts.{and_then, name_at, mark_at, at_end, index_at, ends_angle, deeper}
@@ -56,7 +56,7 @@ next_angle a (Some p) = Some (a ∷ p.0, p.1)
 
 abbrev pub scan : ℕ → List Lexeme → Option (List (List Lexeme) × List Lexeme)
 scan depth [] = None
-scan depth (l ∷ ls) = cond (ends_angle depth l) (cond (is_mark closing_parenthesis l) (Some ([] ∷ [], ls)) (next_angle [] (scan 0 ls))) (lead_angle l (scan (deeper depth l) ls))
+scan depth (l ∷ ls) = cond (ends_angle depth l) (cond (is_mark (code ")") l) (Some ([] ∷ [], ls)) (next_angle [] (scan 0 ls))) (lead_angle l (scan (deeper depth l) ls))
 
 abbrev pub filled : Option (List (List Lexeme) × List Lexeme) → Option (List (List Lexeme) × List Lexeme)
 filled None = None
@@ -82,7 +82,7 @@ angles_from ls (Some rest) = Some ([], rest)
 
 -- angles after an opening parenthesis up to the closing one, and what follows it
 abbrev pub angles_at : List Lexeme → Option (List (List Lexeme) × List Lexeme)
-angles_at ls = angles_from ls (mark_at closing_parenthesis ls)
+angles_at ls = angles_from ls (mark_at (code ")") ls)
 
 -- a name with a size
 abbrev pub declaration_at : List Lexeme → Option (List ℕ × List ℕ)
@@ -108,7 +108,7 @@ call_from name ls None = and_then (arguments_at ls) (λ all. Some (call name Non
 call_from name ls (Some inner) = and_then (angles_at inner) (λ p. and_then (arguments_at p.1) (λ all. Some (call name (Some p.0) all)))
 
 abbrev pub call_at : List ℕ → List Lexeme → Option Statement
-call_at name ls = call_from name ls (mark_at opening_parenthesis ls)
+call_at name ls = call_from name ls (mark_at (code "(") ls)
 
 -- by the first word, and whether it is left out
 unfoldable pub after_word : Bool → List ℕ → List Lexeme → Option Statement
