@@ -1,39 +1,31 @@
 -- Statements carried out, by what the code has found.
-use Rattle.std.proofs.Common.{◌≡◌, ◌∙◌, sym, ap, refl, subst, ◌≤◌, ◌<◌, ℕ, ◌+◌, ◌*◌, Bool, true, false, ◌&&◌, ◌||◌, not, cond, nat_eq, nat_lt, List, [], ◌∷◌, length, Option, Some, Result, Ok, Err, IfOk, arith}
+use Rattle.std.proofs.Common.{◌≡◌, ◌∙◌, sym, ap, refl, subst, ◌≤◌, ◌<◌, ℕ, ◌+◌, ◌*◌, min, Bool, true, false, ◌&&◌, ◌||◌, not, cond, nat_eq, nat_lt, List, [], ◌∷◌, length, Option, Some, None, Result, Ok, Err, IfOk, slice_get, arith}
 use Rattle.std.specs.List.{list_any}
-use Rattle.std.proofs.lemmas.Bool.{and_parts, eqb-true, ltb-false}
+use Rattle.std.specs.Option.{option_map_or, option_to_list}
+use Rattle.std.proofs.lemmas.Bool.{and_parts, eqb-true, cond-false}
 use Rattle.std.proofs.lemmas.Bool.Decides.{nat_tests}
 use Rattle.std.proofs.lemmas.List.{length-replicate}
 use Rattle.gate_set.specs.declared.kind.Kind.{Kind}
 use Rattle.gate_set.specs.Matrix.{arity_of}
 use Rattle.gate_set.specs.Shape.{IsPlaced}
 use Rattle.gate_set.proofs.MatrixLemmas.{arity_of-few}
+use Rattle.qasm_lex.specs.Lexemes.{Lexeme}
 use Rattle.qasm_forms.specs.Statements.{Argument}
 use Rattle.qasm_reader.specs.declared.registers.Miss.{Miss}
 use Rattle.qasm_reader.specs.declared.registers.Miss.TheVariants.{Unknown, Beyond}
 use Rattle.qasm_reader.specs.declared.reason.Why.{Why}
-use Rattle.qasm_reader.specs.declared.reason.Why.TheVariants.{UnknownRegister, IndexOutOfRange, WrongCount, SizesDiffer, RepeatedQubit, Measured, TooManyGates}
-use Rattle.qasm_reader.specs.Acts.{Target, register, index_of, targets, wholes, place_count, qubit_at, qubits_at, product}
+use Rattle.qasm_reader.specs.declared.reason.Why.TheVariants.{UnknownRegister, SizesDiffer, RepeatedQubit, Measured, TooManyGates}
+use Rattle.qasm_reader.specs.Acts.{Target, target, targets, wholes, place_count, qubit_at, qubits_at, product}
 use Rattle.qasm_reader.specs.Calls.{Named, gate, turn, arity, angle_count, one}
 use Rattle.qasm_reader.specs.Reasons.{is_unknown, is_beyond, miscounts}
-use Rattle.qasm_reader.specs.Private.Scope.{find, both_found, capped, differ, repeats, touches, items_of, bodies, counted, outcome_on}
-use Rattle.qasm_lex.specs.Lexemes.{Lexeme}
-use Rattle.qasm_reader.specs.Private.Tests.{Taken, angle_list, first_listed}
-use Rattle.qasm_reader.specs.Private.Drafts.{Draft, IsDraft, with_gates, bodied, counted_on, applied, applied_to, gate_on}
+use Rattle.qasm_reader.specs.Private.Scope.{Taken, found_as, find, both_found, differ, repeats, touches, items_of, bodies, counted, outcome_on}
+use Rattle.qasm_reader.specs.Private.Drafts.{Draft, IsDraft, with_gates, bodied, counted_on, applied, gate_on}
 use Rattle.qasm_reader.proofs.Facts.{passes}
-use Rattle.qasm_reader.proofs.Looking.{Finding, unknown, beyond, found, finding}
 use Rattle.qasm_reader.proofs.Placing.{qubit_below, placed_on}
 
 -- counts up to a most
-same_count : (most n a : ℕ) → a < most → nat_eq (capped most n) a ≡ nat_eq n a
-same_count most n a h = by (nat_lt n most) refl
-  where
-    differ_both : most ≤ n → nat_eq most a ≡ nat_eq n a
-    differ_both l = grind (arith, nat_tests)
-
-    by : (b : Bool) → nat_lt n most ≡ b → nat_eq (capped most n) a ≡ nat_eq n a
-    by true e = ap (λ b. nat_eq (cond b n most) a) e
-    by false e = ap (λ b. nat_eq (cond b n most) a) e ∙ differ_both (ltb-false n most e)
+same_count : (most n a : ℕ) → a < most → nat_eq (min n most) a ≡ nat_eq n a
+same_count most n a h = grind (arith, nat_tests)
 
 arity_few : (called : Named) → arity called < 4
 arity_few (gate kind) = let f = arity_of-few kind in omega arith
@@ -50,12 +42,12 @@ pub record CountsRight (called : Named) (n k : ℕ) : Type 0 where
   pub angles : k ≡ angle_count called
 
 module _ (called : Named) (n k : ℕ) where
-  counts_same : nat_eq (capped 4 n) (arity called) && nat_eq (capped 2 k) (angle_count called) ≡ nat_eq n (arity called) && nat_eq k (angle_count called)
+  counts_same : nat_eq (min n 4) (arity called) && nat_eq (min k 2) (angle_count called) ≡ nat_eq n (arity called) && nat_eq k (angle_count called)
   counts_same =
-      ap (λ b. b && nat_eq (capped 2 k) (angle_count called)) (same_count 4 n (arity called) (arity_few called))
+      ap (λ b. b && nat_eq (min k 2) (angle_count called)) (same_count 4 n (arity called) (arity_few called))
       ∙ ap (λ b. nat_eq n (arity called) && b) (same_count 2 k (angle_count called) (angles_few called))
 
-  pub counts_right : nat_eq (capped 4 n) (arity called) && nat_eq (capped 2 k) (angle_count called) ≡ true → CountsRight called n k
+  pub counts_right : nat_eq (min n 4) (arity called) && nat_eq (min k 2) (angle_count called) ≡ true → CountsRight called n k
   counts_right e =
       let p = and_parts _ _ (sym counts_same ∙ e) in
       record {
@@ -64,20 +56,10 @@ module _ (called : Named) (n k : ℕ) where
         angles = eqb-true k (angle_count called) p.1;
       }
 
-module _ (d : Draft) (called : Named) (n : ℕ) (t : Taken) (all : List Argument) where
-  abbrev after_within : Result Draft Why
-  after_within = cond (miscounts (Some called) (length all) n) (Err WrongCount) (applied_to d t (targets d.registers all))
-
-  abbrev after_known : Result Draft Why
-  after_known = cond (list_any (is_beyond d.registers) all) (Err IndexOutOfRange) after_within
-
-  module _ (known : list_any (is_unknown d.registers true) all ≡ false) where
-    past_known : gate_on d called n t all ≡ cond (list_any (is_beyond d.registers) all) (Err IndexOutOfRange) (cond (miscounts (Some called) (length all) n) (Err WrongCount) (applied_to d t (targets d.registers all)))
-    past_known = ap (λ b. cond b (Err UnknownRegister) after_known) known
-
-    module _ (within : list_any (is_beyond d.registers) all ≡ false) where
-      pub gate_goes : miscounts (Some called) (length all) n ≡ false → (ts : List Target) → targets d.registers all ≡ Some ts → gate_on d called n t all ≡ applied d t ts
-      gate_goes e ts m = past_known ∙ ap (λ b. cond b (Err IndexOutOfRange) after_within) within ∙ ap (λ b. cond b (Err WrongCount) (applied_to d t (targets d.registers all))) e ∙ ap (applied_to d t) m
+pub gate_goes : (d : Draft) (called : Named) (n : ℕ) (t : Taken) (all : List Argument) → list_any (is_unknown d.registers true) all ≡ false → list_any (is_beyond d.registers) all ≡ false
+    → miscounts (Some called) (length all) n ≡ false → (ts : List Target) → targets d.registers all ≡ Some ts → gate_on d called n t all ≡ applied d t ts
+gate_goes d called n t all known within counts ts e =
+    cond-false _ _ _ known ∙ cond-false _ _ _ within ∙ cond-false _ _ _ counts ∙ ap (λ x. option_map_or (applied d t) x (Err UnknownRegister)) e
 
 -- a call on its targets
 abbrev pub finished : Draft → List Target → Result (Kind × ℕ) Why → Result Draft Why
@@ -130,29 +112,26 @@ placed_call d i called all ts body flags gates p u b m c a e place h =
     let s = body_passes body ts flags gates p e in
     (placed_on d.qubits d.registers i.few_qubits i.registers_end all ts p.0 place u b m (c ∙ sym (arity_is body p (arity called) s.does a)) s.alike s.once h).placed
 
--- two that are found
-both_ok : (f g : Result Target Miss) (p : Target × Target) → both_found f g ≡ Ok p → f ≡ Ok p.0
-both_ok (Ok f) (Ok g) p e = let q : (f, g) ≡ p = cc in ap (λ (x : Target × Target). Ok x.0) q
-both_ok (Ok f) (Err m) p e = absurd cc
-both_ok (Err Unknown) g p e = absurd cc
-both_ok (Err Beyond) (Ok g) p e = absurd cc
-both_ok (Err Beyond) (Err m) p e = absurd cc
+-- the first of two that are found
+pub first_found : (u b : Bool) (x : Option Target) (r : Result Target Miss) (p : Target × Target) → both_found (found_as u b x) r ≡ Ok p → (u ≡ false) × (b ≡ false) × (x ≡ Some p.0)
+first_found true b x r p e = absurd cc
+first_found false true x (Ok y) p e = absurd cc
+first_found false true x (Err m) p e = absurd cc
+first_found false false None r p e = absurd cc
+first_found false false (Some f) (Err m) p e = absurd cc
+first_found false false (Some f) (Ok t) p e = let q : (f, t) ≡ p = cc in (refl, refl, ap (λ (x : Target × Target). Some x.0) q)
 
--- a qubit of the first of them is one of the draft's
+-- a qubit of it is one of the draft's
 pub found_below : (d : Draft) → IsDraft d → (from : Argument) (other : Result Target Miss) (p : Target × Target) → both_found (find d.registers true from) other ≡ Ok p
     → (place : ℕ) → place < place_count (p.0 ∷ []) → qubit_at place p.0 < d.qubits
-found_below d i from other p e place h = by (finding (register d.registers from.name) true (index_of from.index)) (both_ok (find d.registers true from) other p e)
-  where
-    by : Finding (register d.registers from.name) true (index_of from.index) → find d.registers true from ≡ Ok p.0 → qubit_at place p.0 < d.qubits
-    by (unknown u f) q = absurd (let z : ◌≡◌ {A = Result Target Miss} (Err Unknown) (Ok p.0) = sym f ∙ q in cc)
-    by (beyond u b f) q = absurd (let z : ◌≡◌ {A = Result Target Miss} (Err Beyond) (Ok p.0) = sym f ∙ q in cc)
-    by (found x u b w f) q =
-        let same : ◌≡◌ {A = Result Target Miss} (Ok x) (Ok p.0) = sym f ∙ q in let is : x ≡ p.0 = cc in qubit_below d.qubits d.registers i.registers_end from p.0 u b (w ∙ ap Some is) place h
+found_below d i from other p e place h =
+    let f = first_found (is_unknown d.registers true from) (is_beyond d.registers from) (target d.registers from) other p e in
+    qubit_below d.qubits d.registers i.registers_end from p.0 f.0 f.1 f.2 place h
 
 -- at most one angle is the first of them
-pub one_listed : (called : Named) (angles : List (List Lexeme)) (first : Option (List Lexeme)) → first ≡ first_listed angles → length angles ≡ angle_count called → angle_list first ≡ angles
-one_listed called [] first e l = ap angle_list e
-one_listed called (a ∷ []) first e l = ap angle_list e
+pub one_listed : (called : Named) (angles : List (List Lexeme)) (first : Option (List Lexeme)) → first ≡ slice_get angles 0 → length angles ≡ angle_count called → option_to_list first ≡ angles
+one_listed called [] first e l = ap option_to_list e
+one_listed called (a ∷ []) first e l = ap option_to_list e
 one_listed called (a ∷ b ∷ more) first e l = absurd (let f = angles_few called in omega arith)
 
 pub few_arguments : (called : Named) (n : ℕ) → n ≡ arity called → n ≤ 3

@@ -7,8 +7,7 @@ ghost use Rattle.qasm_reader.specs.Acts.{place_count, qubit_at, qubits_of};
 ghost use Rattle.qasm_reader.specs.Calls.{builtin, listed};
 ghost use Rattle.qasm_reader.specs.Reasons.{no_size, angles_of, called_in};
 ghost use Rattle.qasm_reader.specs.Private.Seen.{seen_target, seen_named, seen_find, seen_both};
-ghost use Rattle.qasm_reader.specs.Private.Scope.{both_found};
-ghost use Rattle.qasm_reader.specs.Private.Tests.{Taken, Yields};
+ghost use Rattle.qasm_reader.specs.Private.Scope.{Taken, Yields, both_found};
 ghost use Rattle.qasm_reader.specs.Private.Drafts.{
   Draft as Shown,
   IsDraft,

@@ -1,6 +1,7 @@
 -- The circuit of the statements so far, and statements carried out on it.
 use Rattle.std.specs.Prelude.{◌≡◌, ℕ, ◌+◌, ◌*◌, ◌≤◌, ◌<◌, Bool, true, false, not, cond, nat_lt, List, [], ◌∷◌, ◌++◌, length, map, replicate, set, All, Option, Some, None, Result, Ok, Err, codes}
 use Rattle.std.specs.List.{list_any, AllByRecursion}
+use Rattle.std.specs.Option.{option_map_or}
 use Rattle.std.specs.Str.{bytes_eq}
 use Rattle.gate_set.specs.declared.gate.Gate.{Gate}
 use Rattle.gate_set.specs.Shape.{IsOn}
@@ -16,8 +17,7 @@ use Rattle.qasm_reader.specs.Calls.{Named, builtin, listed}
 use Rattle.qasm_reader.specs.Parts.{Part}
 use Rattle.qasm_reader.specs.Reasons.{is_declared, is_unknown, is_beyond, no_size, miscounts, Refuses}
 use Rattle.qasm_reader.specs.Reading.{Accepts, AllAccepted}
-use Rattle.qasm_reader.specs.Private.Scope.{find, both_found, why_missed, differ, repeats, touches}
-use Rattle.qasm_reader.specs.Private.Tests.{Taken, other_count}
+use Rattle.qasm_reader.specs.Private.Scope.{Taken, find, both_found, why_missed, differ, repeats, touches, other_count}
 
 -- registers by name, how many qubits they have, the gates, and which qubits are measured
 pub record Draft : Type 0 where
@@ -55,20 +55,14 @@ outcome None d = Ok d
 outcome (Some why) d = Err why
 
 abbrev pub with_qubits : Draft → List ℕ → ℕ → Draft
-with_qubits d name size = record {
+with_qubits d name size = record d {
   registers = d.registers ++ (name, record { quantum = true; first = d.qubits; size = size }) ∷ [];
   qubits = d.qubits + size;
-  gates = d.gates;
   measured = d.measured ++ replicate size false;
 }
 
 abbrev pub with_bits : Draft → List ℕ → ℕ → Draft
-with_bits d name size = record {
-  registers = d.registers ++ (name, record { quantum = false; first = 0; size = size }) ∷ [];
-  qubits = d.qubits;
-  gates = d.gates;
-  measured = d.measured;
-}
+with_bits d name size = record d { registers = d.registers ++ (name, record { quantum = false; first = 0; size = size }) ∷ [] }
 
 abbrev pub include_on : Draft → List ℕ → Result Draft Why
 include_on d text = cond (not (bytes_eq text (codes "\"qelib1.inc\""))) (Err OutOfProfile) (Ok d)
@@ -97,7 +91,7 @@ raised flags [] = flags
 raised flags (q ∷ qs) = raised (set flags q true) qs
 
 abbrev pub with_measured : Draft → List ℕ → Draft
-with_measured d qs = record { registers = d.registers; qubits = d.qubits; gates = d.gates; measured = raised d.measured qs }
+with_measured d qs = record d { measured = raised d.measured qs }
 
 abbrev pub measured_on : Draft → Result (Target × Target) Miss → Result Draft Why
 measured_on d (Err miss) = Err (why_missed miss)
@@ -107,7 +101,7 @@ abbrev pub measure_on : Draft → Argument → Argument → Result Draft Why
 measure_on d from to = measured_on d (both_found (find d.registers true from) (find d.registers false to))
 
 abbrev pub with_gates : Draft → List Gate → Draft
-with_gates d more = record { registers = d.registers; qubits = d.qubits; gates = d.gates ++ more; measured = d.measured }
+with_gates d more = record d { gates = d.gates ++ more }
 
 -- the gates that the angles of a call come to
 abbrev pub bodied : Taken → Result (List Item) Why
@@ -123,19 +117,14 @@ counted_on d ts (Ok items) =
 abbrev pub applied : Draft → Taken → List Target → Result Draft Why
 applied d t ts = cond (differ (wholes ts)) (Err SizesDiffer) (cond (repeats ts) (Err RepeatedQubit) (counted_on d ts (bodied t)))
 
-abbrev pub applied_to : Draft → Taken → Option (List Target) → Result Draft Why
-applied_to d t None = Err UnknownRegister
-applied_to d t (Some ts) = applied d t ts
-
 abbrev pub gate_on : Draft → Named → ℕ → Taken → List Argument → Result Draft Why
 gate_on d called angles t all =
     cond (list_any (is_unknown d.registers true) all) (Err UnknownRegister)
     (cond (list_any (is_beyond d.registers) all) (Err IndexOutOfRange)
-    (cond (miscounts (Some called) (length all) angles) (Err WrongCount) (applied_to d t (targets d.registers all))))
+    (cond (miscounts (Some called) (length all) angles) (Err WrongCount) (option_map_or (applied d t) (targets d.registers all) (Err UnknownRegister))))
 
 abbrev pub call_on : Draft → Option Named → ℕ → Taken → List Argument → Result Draft Why
-call_on d None angles t all = Err UnknownName
-call_on d (Some called) angles t all = gate_on d called angles t all
+call_on d named angles t all = option_map_or (λ called. gate_on d called angles t all) named (Err UnknownName)
 
 -- the draft with the statement carried out, or why it is refused; its angles come to this
 abbrev pub step : ℕ → Draft → Statement → Taken → Result Draft Why

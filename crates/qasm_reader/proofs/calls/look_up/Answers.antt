@@ -1,5 +1,5 @@
-use Rattle.std.proofs.Common.{◌≡◌, ◌∙◌, ◌+◌, sym, ap, arith, Some, length}
-use Rattle.qasm_reader.specs.Private.Scope.{Found, seen_found, nothing_found, look, capped}
+use Rattle.std.proofs.Common.{◌≡◌, ◌∙◌, ◌+◌, sym, ap, arith, min, Some, length}
+use Rattle.qasm_reader.specs.Private.Scope.{Found, seen_found, nothing_found, look}
 use Rattle.qasm_reader.proofs.Looking.{look_unknown, look_beyond, look_count, all_targets}
 use Rattle.qasm_reader.proofs.calls.look_up.Goals as goal
 
@@ -20,7 +20,7 @@ returns-clause-count c =
     let e : seen_found c.loop-argument.found ≡ look c.args.registers.now nothing_found c.args.arguments =
     sym (c.loop-argument.invariant.looked ∙ ap (look c.args.registers.now (seen_found c.loop-argument.found)) c.in_default.ensures.0) in
     let none : 0 + length c.args.arguments ≡ length c.args.arguments = omega arith in
-    ap (λ (f : Found). f.count) e ∙ look_count c.args.registers.now nothing_found c.args.arguments (omega arith) ∙ ap (capped 4) none
+    ap (λ (f : Found). f.count) e ∙ look_count c.args.registers.now nothing_found c.args.arguments (omega arith) ∙ ap (λ n. min n 4) none
 
 pub returns-clause-means : goal.returns-clause-means
 returns-clause-means c u b h =

@@ -1,7 +1,7 @@
 use Rattle.std.proofs.Common.{◌≡◌, ◌∙◌, sym, ap, subst, length, Some, None}
 use Rattle.qasm_reader.specs.Calls.{builtin, listed}
 use Rattle.qasm_reader.specs.Private.Seen.{seen_named, seen_name}
-use Rattle.qasm_reader.specs.Private.Tests.{Yields}
+use Rattle.qasm_reader.specs.Private.Scope.{Yields}
 use Rattle.qasm_reader.specs.Private.Drafts.{call_on}
 use Rattle.std.proofs.lemmas.Result.{IfOk-weaker}
 use Rattle.qasm_reader.proofs.draft.Draft.call.Goals as goal

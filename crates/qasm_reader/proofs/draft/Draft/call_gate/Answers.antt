@@ -1,12 +1,12 @@
-use Rattle.std.proofs.Common.{rules, ◌≡◌, ◌∙◌, ◌&&◌, ◌<◌, ◌++◌, sym, ap, subst, nat_eq, length, true, false, replicate, Some, Ok, Err}
+use Rattle.std.proofs.Common.{rules, ◌≡◌, ◌∙◌, ◌&&◌, ◌<◌, ◌++◌, sym, ap, subst, nat_eq, min, length, true, false, replicate, Some, Ok, Err}
 use Rattle.std.specs.List.{list_any}
 use Rattle.gate_set.specs.Shape.{IsPlaced}
 use Rattle.qasm_reader.specs.Acts.{qubits_at, place_count, targets, product}
 use Rattle.qasm_reader.specs.Calls.{arity, angle_count, one as one_of, listed}
 use Rattle.qasm_reader.specs.Reasons.{is_unknown, is_beyond}
 use Rattle.qasm_reader.specs.Private.Seen.{seen_named, seen_targets}
-use Rattle.qasm_reader.specs.Private.Scope.{capped, bodies, outcome_on}
-use Rattle.qasm_reader.specs.Private.Tests.{Yields}
+use Rattle.qasm_reader.specs.Private.Scope.{bodies, outcome_on}
+use Rattle.qasm_reader.specs.Private.Scope.{Yields}
 use Rattle.qasm_reader.specs.Private.Drafts.{Draft, with_gates, bodied}
 use Rattle.qasm_reader.proofs.Calling.{counts_right, gate_goes, finished, outcome_applied, placed_call, one_listed, few_arguments}
 use Rattle.qasm_reader.proofs.draft.Draft.call_gate.Goals as goal
@@ -24,7 +24,7 @@ apply-requires c place h =
     let right : c.has_counts.result ≡ true = c.if-not-has_counts.false in
     let counts = counts_right called (length all) (length angles)
     (sym (c.has_counts.ensures ∙ ap (λ x. nat_eq x (arity called) && nat_eq c.first_angle-angle.result.1 (angle_count called)) c.look_up-found.ensures.count
-    ∙ ap (λ x. nat_eq (capped 4 (length all)) (arity called) && nat_eq x (angle_count called)) c.first_angle-angle.ensures.count) ∙ right) in
+    ∙ ap (λ x. nat_eq (min (length all) 4) (arity called) && nat_eq x (angle_count called)) c.first_angle-angle.ensures.count) ∙ right) in
     let are : targets d.registers all ≡ Some ts =
     ap (λ r. targets r all) (sym regs) ∙ c.look_up-found.ensures.means c.if-found.false c.if-found-2.false (few_arguments called (length all) counts.arguments) in
     let passed : outcome_on c.body_of-body.result ts d.measured (length d.gates) ≡ Ok (c.in-Ok.kind, c.in-Ok.times) = search rules in
@@ -46,7 +46,7 @@ returns-in-Err c t y =
     let right : c.has_counts.result ≡ true = c.if-not-has_counts.false in
     let counts = counts_right called (length all) (length angles)
     (sym (c.has_counts.ensures ∙ ap (λ x. nat_eq x (arity called) && nat_eq c.first_angle-angle.result.1 (angle_count called)) c.look_up-found.ensures.count
-    ∙ ap (λ x. nat_eq (capped 4 (length all)) (arity called) && nat_eq x (angle_count called)) c.first_angle-angle.ensures.count) ∙ right) in
+    ∙ ap (λ x. nat_eq (min (length all) 4) (arity called) && nat_eq x (angle_count called)) c.first_angle-angle.ensures.count) ∙ right) in
     let are : targets d.registers all ≡ Some ts =
     ap (λ r. targets r all) (sym regs) ∙ c.look_up-found.ensures.means c.if-found.false c.if-found-2.false (few_arguments called (length all) counts.arguments) in
     let passed : outcome_on c.body_of-body.result ts d.measured (length d.gates) ≡ Err c.in-Err.why = search rules in
@@ -70,7 +70,7 @@ returns-in_ok-apply-in-Ok c t y =
     let right : c.has_counts.result ≡ true = c.if-not-has_counts.false in
     let counts = counts_right called (length all) (length angles)
     (sym (c.has_counts.ensures ∙ ap (λ x. nat_eq x (arity called) && nat_eq c.first_angle-angle.result.1 (angle_count called)) c.look_up-found.ensures.count
-    ∙ ap (λ x. nat_eq (capped 4 (length all)) (arity called) && nat_eq x (angle_count called)) c.first_angle-angle.ensures.count) ∙ right) in
+    ∙ ap (λ x. nat_eq (min (length all) 4) (arity called) && nat_eq x (angle_count called)) c.first_angle-angle.ensures.count) ∙ right) in
     let are : targets d.registers all ≡ Some ts =
     ap (λ r. targets r all) (sym regs) ∙ c.look_up-found.ensures.means c.if-found.false c.if-found-2.false (few_arguments called (length all) counts.arguments) in
     let passed : outcome_on c.body_of-body.result ts d.measured (length d.gates) ≡ Ok (c.in-Ok.kind, c.in-Ok.times) = search rules in
