@@ -21,7 +21,7 @@ use Rattle.qasm_reader.specs.Reasons.{Refuses, IsFree, is_unknown, angles_of, ca
 use Rattle.qasm_reader.specs.Reading.{Accepts, AllAccepted, Reading, circuit, refusal, IsRefused, Reads, ReadsAs}
 use Rattle.qasm_reader.specs.Private.Scope.{Taken, Yields}
 use Rattle.qasm_reader.proofs.Deciding.{tests, first_of, IsGood, refuses, free}
-use Rattle.qasm_reader.proofs.Good.{some_acts, bad_refuses, version_refuses, form_refuses}
+use Rattle.qasm_reader.proofs.Good.{some_more, bad_refuses, version_refuses, form_refuses}
 use Rattle.qasm_reader.proofs.Looking.{target_known, targets_known}
 use Rattle.qasm_forms.proofs.Nesting.{mark_is}
 use Rattle.qasm_reader.proofs.Yielding.{every_yield}
@@ -106,7 +106,7 @@ module _ (limit : ℕ) where
   -- what is no statement is refused
   none_decided : (before : List Act) (part : Part) → part.bad ≡ None → ((s : Statement) → Has before part s → ⊥) → Decided limit before part
   none_decided [] part e n = inr (NoVersion, version_refuses limit [] part e refl (n version))
-  none_decided (a ∷ before) part e n = inr (NotAStatement, form_refuses limit (a ∷ before) part e (some_acts (a ∷ before) refl) n)
+  none_decided (a ∷ before) part e n = inr (NotAStatement, form_refuses limit (a ∷ before) part e (some_more a before) n)
 
   -- a statement is in its place, or is refused
   placed_decided : (before : List Act) (part : Part) (s : Statement) → (s ≡ version) ⊎ (s ≡ version → ⊥) → part.bad ≡ None → part.lexemes ≡ written s → IsStatement (leaves before) s → Decided limit before part
@@ -118,12 +118,12 @@ module _ (limit : ℕ) where
   placed_decided (a ∷ before) part s (inl v) e w f =
       inr (
         NotAStatement,
-        form_refuses limit (a ∷ before) part e (some_acts (a ∷ before) refl)
-            (λ o g. some_acts (a ∷ before) refl (g.first (statements_same (leaves (a ∷ before)) o s g.statement f (sym g.spelled ∙ w) ∙ v))),
+        form_refuses limit (a ∷ before) part e (some_more a before)
+            (λ o g. some_more a before (g.first (statements_same (leaves (a ∷ before)) o s g.statement f (sym g.spelled ∙ w) ∙ v))),
       )
   placed_decided (a ∷ before) part s (inr n) e w f =
       let h : Has (a ∷ before) part s = record { spelled = w; statement = f; first = λ p. absurd (n p) } in
-      good_decided limit (a ∷ before) part s (record { has = h; no_bad = e; first = λ p. absurd (some_acts (a ∷ before) refl p) })
+      good_decided limit (a ∷ before) part s (record { has = h; no_bad = e; first = λ p. absurd (some_more a before p) })
 
   -- each part is accepted or refused
   decided : (before : List Act) (part : Part) → Decided limit before part

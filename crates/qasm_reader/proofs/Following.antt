@@ -19,8 +19,8 @@ use Rattle.qasm_reader.specs.Calls.{Named, builtin, arity, angle_count, listed, 
 use Rattle.qasm_reader.specs.Parts.{Part, Has}
 use Rattle.qasm_reader.specs.Reasons.{Refuses, is_unknown, is_beyond, angles_of, called_in}
 use Rattle.qasm_reader.specs.Private.Scope.{Taken, Yields, find, differ, repeats, other_count}
-use Rattle.qasm_reader.specs.Private.Drafts.{Draft, Follows, Concludes, outcome, measured_on, with_qubits, with_bits, with_measured, with_gates, bodied, counted_on, applied, call_on, step, is_version, is_first, no_form, ended_part}
-use Rattle.qasm_reader.proofs.Good.{no_acts, some_acts, version_refuses, form_refuses}
+use Rattle.qasm_reader.specs.Private.Drafts.{Draft, Follows, Concludes, outcome, measured_on, with_qubits, with_bits, with_measured, with_gates, bodied, counted_on, applied, call_on, step, is_version, no_form, ended_part}
+use Rattle.qasm_reader.proofs.Good.{is_first, no_acts, some_acts, version_refuses, form_refuses}
 use Rattle.qasm_reader.proofs.Deciding.{tests, first_of, IsGood, refuses, free}
 use Rattle.qasm_reader.proofs.Growing.{follows_nothing, follows_qubits, follows_bits, follows_measures, follows_applies}
 use Rattle.qasm_reader.proofs.Calling.{first_found}

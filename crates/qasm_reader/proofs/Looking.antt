@@ -10,7 +10,15 @@ use Rattle.qasm_reader.specs.declared.registers.Miss.{Miss}
 use Rattle.qasm_reader.specs.declared.registers.Miss.TheVariants.{Unknown, Beyond}
 use Rattle.qasm_reader.specs.Acts.{Register, Target, register, index_of, place_in, target, targets}
 use Rattle.qasm_reader.specs.Reasons.{same_sort, is_unknown, is_beyond}
-use Rattle.qasm_reader.specs.Private.Scope.{found_as, find, Found, nothing_found, next_count, noted, look}
+use Rattle.qasm_reader.specs.Private.Scope.{found_as, find, Found, next_count, noted}
+
+-- what is known of arguments, noted one after the other
+abbrev pub nothing_found : Found
+nothing_found = record { targets = []; count = 0; unknown = false; beyond = false }
+
+abbrev pub look : List (List ℕ × Register) → Found → List Argument → Found
+look all f [] = f
+look all f (a ∷ more) = look all (noted f (find all true a)) more
 
 -- a target before others
 abbrev pub and_first : Option Target → Option (List Target) → Option (List Target)

@@ -8,7 +8,7 @@ ghost use Rattle.gate_set.specs.Matrix.{arity_of};
 ghost use Rattle.qasm_reader.specs.Calls.{turn, builtin, arity, angle_count, listed};
 ghost use Rattle.qasm_reader.specs.Reasons.{is_unknown, is_beyond};
 ghost use Rattle.qasm_reader.specs.Private.Seen.{seen_targets, seen_named, seen_find};
-ghost use Rattle.qasm_reader.specs.Private.Scope.{Taken, Yields, seen_found, nothing_found, noted, look, bodies, outcome_on};
+ghost use Rattle.qasm_reader.specs.Private.Scope.{Taken, Yields, seen_found, noted, bodies, outcome_on};
 ghost use Rattle.qasm_reader.specs.Private.Drafts.{bodied};
 
 use crate::builtin::{Builtin, turns};

@@ -1,9 +1,9 @@
 //! Registers by name, in the order of their declarations, and what arguments mean.
-ghost use Rattle.std.specs.Prelude.{◌≡◌, ◌++◌, ◌∷◌, [], not, true, IfOk};
+ghost use Rattle.std.specs.Prelude.{◌≡◌, ◌++◌, ◌∷◌, [], not, true, IfOk, option_map};
 ghost use Rattle.qasm_forms.specs.Cutting.{seen_bytes};
 ghost use Rattle.qasm_reader.specs.Acts.{register, index_of};
 ghost use Rattle.qasm_reader.specs.Reasons.{is_declared};
-ghost use Rattle.qasm_reader.specs.Private.Seen.{seen_register, seen_row, seen_find};
+ghost use Rattle.qasm_reader.specs.Private.Seen.{seen_register, seen_find};
 ghost use Rattle.qasm_reader.specs.Private.Scope.{find, placed_at, why_missed};
 
 use crate::hashing::KeyedNames;
@@ -99,7 +99,7 @@ impl<'a> Registers<'a> {
 
     /// The register of a name.
     pub fn get(&self, name: &[u8]) -> Option<Register>
-        ensures { seen_row result ≡ register self.now name.now }
+        ensures { option_map seen_register result ≡ register self.now name.now }
     {
         self.places.get(name).copied()
     }

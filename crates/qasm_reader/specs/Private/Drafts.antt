@@ -51,8 +51,7 @@ pub record Follows (limit : ℕ) (acts : List Act) (d : Draft) : Type 0 where
 
 -- a draft goes on, or the statement is refused
 abbrev pub outcome : Option Why → Draft → Result Draft Why
-outcome None d = Ok d
-outcome (Some why) d = Err why
+outcome why d = option_map_or Err why (Ok d)
 
 abbrev pub with_qubits : Draft → List ℕ → ℕ → Draft
 with_qubits d name size = record d {
@@ -73,14 +72,6 @@ qubits_on limit d name size =
 
 abbrev pub bits_on : Draft → List ℕ → ℕ → Result Draft Why
 bits_on d name size = cond (is_declared d.registers name) (Err Redeclared) (cond (no_size size) (Err IndexOutOfRange) (Ok (with_bits d name size)))
-
--- that the name is declared, or another reason
-abbrev pub or_redeclared : List (List ℕ × Register) → List ℕ → Why → Why
-or_redeclared all name why = cond (is_declared all name) Redeclared why
-
--- a size that a register may have
-abbrev pub size_of : ℕ → Option ℕ
-size_of n = cond (no_size n) None (Some n)
 
 abbrev pub barrier_on : Draft → List Argument → Result Draft Why
 barrier_on d all = cond (list_any (is_unknown d.registers true) all) (Err UnknownRegister) (cond (list_any (is_beyond d.registers) all) (Err IndexOutOfRange) (Ok d))
@@ -143,12 +134,7 @@ is_version _ = false
 
 -- why there is no statement where one is wanted
 abbrev pub no_form : Bool → Why
-no_form true = NoVersion
-no_form false = NotAStatement
-
-abbrev pub is_first : List Act → Bool
-is_first [] = true
-is_first (a ∷ acts) = false
+no_form first = cond first NoVersion NotAStatement
 
 -- a statement with its end, by the lexemes before that
 abbrev pub ended_part : List Lexeme → Part
@@ -167,7 +153,3 @@ pub record Reached (limit : ℕ) (all rest : List Part) (d : Draft) (number : �
   pub accepted : AllAccepted limit [] good acts
   pub follows : Follows limit acts d
   pub count : number ≡ length good + 1
-
--- the circuit of a draft
-abbrev pub circuit_in : Draft → Circuit
-circuit_in d = record { qubits = d.qubits; gates = d.gates; measured = d.measured }

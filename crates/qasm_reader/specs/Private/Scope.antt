@@ -1,5 +1,6 @@
 -- What the reader knows at a statement, and its tests there.
 use Rattle.std.specs.List.{list_any}
+use Rattle.std.specs.Result.{result_map_both}
 use Rattle.std.specs.Prelude.{◌≡◌, not, get_or, ℕ, ◌+◌, ◌*◌, Bool, true, false, ◌||◌, cond, nat_lt, nat_eq, List, [], ◌∷◌, ◌++◌, length, replicate, Option, Some, None, ok_or, Result, Ok, Err}
 use Rattle.gate_set.specs.declared.kind.Kind.{Kind}
 use Rattle.qasm_lex.specs.declared.refusal.AngleRefusal.{AngleRefusal}
@@ -58,9 +59,6 @@ pub record Found : Type 0 where
 abbrev pub seen_found : CodeFound → Found
 seen_found f = record { targets = seen_targets f.targets.items; count = f.count; unknown = f.unknown; beyond = f.beyond }
 
-abbrev pub nothing_found : Found
-nothing_found = record { targets = []; count = 0; unknown = false; beyond = false }
-
 abbrev pub next_count : ℕ → ℕ
 next_count n = cond (nat_lt n 4) (n + 1) n
 
@@ -68,10 +66,6 @@ abbrev pub noted : Found → Result Target Miss → Found
 noted f (Ok t) = record { targets = cond (nat_lt (length f.targets) 3) (f.targets ++ t ∷ []) f.targets; count = next_count f.count; unknown = f.unknown; beyond = f.beyond }
 noted f (Err Unknown) = record { targets = f.targets; count = next_count f.count; unknown = true; beyond = f.beyond }
 noted f (Err Beyond) = record { targets = f.targets; count = next_count f.count; unknown = f.unknown; beyond = true }
-
-abbrev pub look : List (List ℕ × Register) → Found → List Argument → Found
-look all f [] = f
-look all f (a ∷ more) = look all (noted f (find all true a)) more
 
 abbrev pub other_than : ℕ → ℕ → Bool
 other_than n m = not (nat_eq m n)
@@ -105,8 +99,7 @@ abbrev pub items_of : Kind × ℕ → List Item
 items_of p = replicate p.1 (one p.0)
 
 abbrev pub bodies : Result (Kind × ℕ) Why → Result (List Item) Why
-bodies (Ok p) = Ok (items_of p)
-bodies (Err why) = Err why
+bodies body = result_map_both items_of (λ why. why) body
 
 abbrev pub counted : List Bool → List Target → ℕ → Result (Kind × ℕ) Why → Result (Kind × ℕ) Why
 counted flags ts gates (Err why) = Err why

@@ -1,5 +1,5 @@
 -- The code's types as the definitions have them.
-use Rattle.std.specs.Prelude.{ℕ, List, map, Option, option_map, Result}
+use Rattle.std.specs.Prelude.{ℕ, List, map, Result}
 use Rattle.std.specs.Result.{result_map_both}
 use Rattle.std.specs.Borrow.{Bor}
 use Rattle.qasm_reader.specs.declared.registers.Register.{Register as Row}
@@ -12,9 +12,6 @@ use Rattle.qasm_reader.specs.Calls.{Named, gate, turn}
 
 abbrev pub seen_register : Row → Register
 seen_register r = record { quantum = r.quantum; first = r.first; size = r.size }
-
-abbrev pub seen_row : Option Row → Option Register
-seen_row r = option_map seen_register r
 
 abbrev pub seen_target : Place → Target
 seen_target t = place_in (seen_register t.register) t.index
@@ -31,9 +28,6 @@ seen_both ts = result_map_both (λ p. (seen_target p.0, seen_target p.1)) (λ m.
 abbrev pub seen_named : Builtin → Named
 seen_named (Gate kind) = gate kind
 seen_named (Turn forth back) = turn forth back
-
-abbrev pub seen_name : Option Builtin → Option Named
-seen_name b = option_map seen_named b
 
 -- an entry of the map of registers
 abbrev pub entry_of : Bor (List ℕ) × Row → List ℕ × Register
