@@ -1,6 +1,6 @@
 -- Words of the calls on lexemes: their front, and what stands before and after a separator.
 use Prim.Native.Char.{code}
-use Rattle.std.specs.Prelude.{ℕ, Bool, true, false, cond, List, [], ◌∷◌, Option, Some, None}
+use Rattle.std.specs.Prelude.{ℕ, Bool, true, false, cond, List, [], ◌∷◌, Option, Some, None, option_copied}
 use Rattle.std.specs.Borrow.{Bor}
 use Rattle.qasm_lex.specs.Lexemes.{Lexeme, word, arrow}
 use Rattle.qasm_forms.specs.declared.lexemes.Stop.{Stop}
@@ -9,8 +9,7 @@ use Rattle.qasm_forms.specs.Statements.{is_mark}
 
 -- bytes, if there are some
 abbrev pub seen_bytes : Option (Bor (List ℕ)) → Option (List ℕ)
-seen_bytes None = None
-seen_bytes (Some b) = Some b.now
+seen_bytes bytes = option_copied bytes
 
 -- whether none are left
 abbrev pub is_nothing : List Lexeme → Bool

@@ -1,6 +1,6 @@
 -- Statements of OpenQASM 2.0 as trees, and how each is written.
 use Prim.Native.Char.{code}
-use Rattle.std.specs.Prelude.{◌≡◌, ℕ, ◌≤◌, ◌<◌, Bool, true, false, ◌&&◌, not, List, [], ◌∷◌, ◌++◌, length, filter, nat_eq, Option, Some, None, codes}
+use Rattle.std.specs.Prelude.{◌≡◌, ℕ, ◌≤◌, ◌<◌, Bool, true, false, ◌&&◌, not, List, [], ◌∷◌, ◌++◌, length, filter, map, nat_eq, Option, Some, None, unwrap_or, codes}
 use Rattle.std.specs.List.{AllByRecursion, list_any}
 use Rattle.std.specs.Str.{bytes_eq}
 use Rattle.qasm_lex.specs.Bytes.{is_small}
@@ -43,8 +43,7 @@ listed (x ∷ []) = x
 listed (x ∷ y ∷ ys) = x ++ (mark (code ",") ∷ listed (y ∷ ys))
 
 abbrev pub written_each : List Argument → List (List Lexeme)
-written_each [] = []
-written_each (a ∷ more) = written_argument a ∷ written_each more
+written_each arguments = map written_argument arguments
 
 -- `(ANGLE, ANGLE ..)`, `()` or nothing
 abbrev pub written_angles : Option (List (List Lexeme)) → List Lexeme
@@ -115,8 +114,7 @@ pub record AreArguments (arguments : List Argument) : Type 0 where
   pub each : AllByRecursion IsArgument arguments
 
 abbrev pub AreAngles : Option (List (List Lexeme)) → Type 0
-AreAngles None = Unit {0}
-AreAngles (Some angles) = AllByRecursion IsAngle angles
+AreAngles angles = AllByRecursion IsAngle (unwrap_or angles [])
 
 -- the parts of a statement are what the grammar asks for
 abbrev pub Formed : Statement → Type 0
