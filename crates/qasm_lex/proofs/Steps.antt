@@ -64,13 +64,7 @@ shorter (suc n) atom s = tt
 
 bound_some : (g : Goal Outcome) → 0 < bound g
 bound_some expr = omega arith
-bound_some (terms v) = omega arith
-bound_some term = omega arith
-bound_some (factors v) = omega arith
-bound_some factor = omega arith
-bound_some power = omega arith
-bound_some (raise v) = omega arith
-bound_some atom = omega arith
+bound_some _ = omega arith
 
 -- a step that reads parts alike, wherever they are smaller, gives the same
 step_same : (f k : Goal Outcome → List Symbol → Found Outcome) → ((g : Goal Outcome) (s : List Symbol) → Shrinks (least g) s (f g s)) → (g : Goal Outcome) (s : List Symbol)

@@ -5,7 +5,7 @@ use Rattle.std.specs.List.{list_any}
 use Rattle.std.specs.Str.{bytes_eq}
 use Rattle.qasm_lex.specs.declared.symbol.Symbol.{Symbol}
 use Rattle.qasm_lex.specs.declared.symbol.Symbol.TheVariants.{Whole, Real, Pi, Function, Plus, Minus, Times, Over, Caret, Open, Close, Other}
-use Rattle.qasm_lex.specs.Lexemes.{Lexeme, word, whole, real, quoted, arrow, equal, mark}
+use Rattle.qasm_lex.specs.Lexemes.{Lexeme, word, whole, real, mark}
 use Rattle.qasm_lex.specs.Fractions.{most}
 
 -- the number that decimal digits spell, the first of them the highest
@@ -45,10 +45,8 @@ abbrev pub symbol_of : Lexeme → Symbol
 symbol_of (word bytes) = word_symbol bytes
 symbol_of (whole digits) = Whole (narrow_number (decimal digits))
 symbol_of (real bytes) = Real
-symbol_of (quoted bytes) = Other
-symbol_of arrow = Other
-symbol_of equal = Other
 symbol_of (mark b) = mark_symbol b
+symbol_of _ = Other
 
 -- what lexemes stand for
 abbrev pub symbols : List Lexeme → List Symbol

@@ -1,5 +1,5 @@
 -- What the private functions of the descent return.
-use Rattle.std.specs.Prelude.{ℕ, zero, suc, ◌+◌, ◌*◌, length, List, [], ◌∷◌, Option, Some, None, Result, Err}
+use Rattle.std.specs.Prelude.{ℕ, zero, suc, ◌+◌, ◌*◌, length, List, [], ◌∷◌, Option, Some, None, option_map, option_and_then, Result, Err}
 use Rattle.qasm_lex.specs.declared.symbol.Symbol.{Symbol}
 use Rattle.qasm_lex.specs.declared.symbol.Symbol.TheVariants.{Whole, Real, Pi, Function, Plus, Minus, Times, Over, Caret, Open, Close}
 use Rattle.qasm_lex.specs.Expressions.{Algebra}
@@ -25,8 +25,7 @@ Found X = Option (X × List Symbol)
 
 -- go on after what was read
 abbrev pub next : {X : Type 0} → Found X → (X → List Symbol → Found X) → Found X
-next None f = None
-next (Some p) f = f p.0 p.1
+next read f = option_and_then (λ p. f p.0 p.1) read
 
 -- a closing parenthesis after a value
 abbrev pub close : {X : Type 0} → X → List Symbol → Found X
@@ -62,19 +61,15 @@ parse o (suc n) g s = step o (parse o n) g s
 
 -- what was read, and what is left
 abbrev pub seen : Option Outcome → List Symbol → Found Outcome
-seen None s = None
-seen (Some v) s = Some (v, s)
+seen value s = option_map (λ v. (v, s)) value
 
 -- a depth that is enough
 abbrev pub bound : {X : Type 0} → Goal X → ℕ
 bound expr = 7
-bound (terms v) = 1
 bound term = 5
-bound (factors v) = 1
 bound factor = 3
 bound power = 2
-bound (raise v) = 1
-bound atom = 1
+bound _ = 1
 
 -- the descent, as deep as it goes
 unfoldable pub parsed : Goal Outcome → List Symbol → Found Outcome
@@ -87,8 +82,7 @@ ended (c ∷ s) v = None
 
 -- the value where nothing is left
 abbrev pub whole_of : Found Outcome → Option Outcome
-whole_of None = None
-whole_of (Some p) = ended p.1 p.0
+whole_of read = option_and_then (λ p. ended p.1 p.0) read
 
 -- the answer to what was read
 abbrev pub answer_from : Option Outcome → Result Ratio AngleRefusal
