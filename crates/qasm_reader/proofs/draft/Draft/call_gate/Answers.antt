@@ -1,11 +1,11 @@
-use Rattle.std.proofs.Common.{rules, ◌≡◌, ◌∙◌, ◌<◌, ◌++◌, sym, ap, subst, length, replicate, Ok, Err}
+use Rattle.std.proofs.Common.{rules, ◌≡◌, ◌∙◌, ◌<◌, ◌++◌, sym, ap, subst, length, replicate, Some, Ok, Err}
 use Rattle.gate_set.specs.Shape.{IsPlaced}
 use Rattle.qasm_reader.specs.Acts.{qubits_at, place_count, product}
 use Rattle.qasm_reader.specs.Calls.{one as one_of, listed}
 use Rattle.qasm_reader.specs.Private.Seen.{seen_named, seen_targets}
 use Rattle.qasm_reader.specs.Private.Scope.{Yields, bodies, outcome_on}
 use Rattle.qasm_reader.specs.Private.Drafts.{Draft, with_gates, bodied}
-use Rattle.qasm_reader.proofs.Calling.{Looked, looked, finished, comes_to, placed_call, one_listed}
+use Rattle.qasm_reader.proofs.Calling.{looked, finished, comes_to, placed_call, one_listed}
 use Rattle.qasm_reader.proofs.draft.Draft.call_gate.Goals as goal
 
 pub apply-requires : goal.apply-requires
