@@ -1,4 +1,5 @@
 -- The lines of the text of `demo`, piece by piece.
+use Prim.Native.Char.{code}
 use Rattle.std.proofs.Common.{◌≡◌, ℕ, zero, suc, ◌+◌, ◌<◌, ◌≤◌, ◌/◌, ◌^◌, ◌==◌, true, cond, List, [], ◌∷◌, ◌++◌, map, length, get_or, take, drop, min, codes, decimal, inl, inr, refl, sym, ◌∙◌, ap, subst, arith}
 use Rattle.std.specs.List.{AllByRecursion, range_with_len, remove}
 use Rattle.std.proofs.lemmas.List.{append_assoc}
@@ -7,7 +8,6 @@ use Rattle.std.proofs.lemmas.Int.Digits.{all_below_base_digits_of}
 use Rattle.std.specs.Int.Digits.{AllBelowBase, digits_of}
 use Rattle.std.proofs.lemmas.Fmt.{decimal-digits_of, decimal_digit, decimal_nonempty}
 use Rattle.std.proofs.Math.Nat.{mod-lt}
-use Rattle.qasm_lex.specs.Characters.{line_feed, space, comma, semicolon, opening_bracket, closing_bracket}
 use Rattle.qasm_lex.specs.declared.bytes.Part.TheVariants.{Digits}
 use Rattle.qasm_lex.specs.declared.pieces.Form.TheVariants.{Token as OfKind}
 use Rattle.qasm_lex.specs.declared.token.TokenKind.TheVariants.{Whole, Real, Text}
@@ -77,7 +77,7 @@ h_word = record { first = 104; more = []; is = refl; letter = refl; run = tt }
 
 place_fronts : (i : ℕ) (after : List ℕ) → i < 2 ^ 64 → AreFronts (place_pieces i) after
 unfolding AreFronts text_of class_of
-place_fronts i after lt = (word_front (codes "q") _ q_word refl, (mark_front opening_bracket _ refl, (subst (λ t. Begins (decimal i ++ t) (OfKind Whole) (length (decimal i))) refl (whole_front (decimal i) closing_bracket after (decimal_is i lt) refl), (mark_front closing_bracket _ refl, tt))))
+place_fronts i after lt = (word_front (codes "q") _ q_word refl, (mark_front (code "[") _ refl, (subst (λ t. Begins (decimal i ++ t) (OfKind Whole) (length (decimal i))) refl (whole_front (decimal i) (code "]") after (decimal_is i lt) refl), (mark_front (code "]") _ refl, tt))))
 
 abbrev Small : ℕ → Type 0
 Small i = i < 2 ^ 64
@@ -88,7 +88,7 @@ AreSmall is = AllByRecursion Small is
 more_fronts : (is : List ℕ) (after : List ℕ) → AreSmall is → AreFronts (more_pieces is) after
 unfolding more_pieces AreFronts class_of
 more_fronts [] after h = tt
-more_fronts (i ∷ is) after h = (mark_front comma _ refl, fronts_append (place_pieces i) (more_pieces is) after (place_fronts i _ h.0) (more_fronts is after h.1))
+more_fronts (i ∷ is) after h = (mark_front (code ",") _ refl, fronts_append (place_pieces i) (more_pieces is) after (place_fronts i _ h.0) (more_fronts is after h.1))
 
 places_fronts : (is : List ℕ) (after : List ℕ) → AreSmall is → AreFronts (places_pieces is) after
 unfolding places_pieces AreFronts
@@ -97,7 +97,7 @@ places_fronts (i ∷ is) after h = fronts_append (place_pieces i) (more_pieces i
 
 end_fronts : (after : List ℕ) → AreFronts line_end after
 unfolding AreFronts text_of class_of
-end_fronts after = (mark_front semicolon _ refl, (feed_front line_feed _ refl, tt))
+end_fronts after = (mark_front (code ";") _ refl, (feed_front (code "\n") _ refl, tt))
 
 record IsLine (c : Call) : Type 0 where
   name : IsWord c.name
@@ -105,7 +105,7 @@ record IsLine (c : Call) : Type 0 where
 
 line_fronts : (c : Call) (after : List ℕ) → IsLine c → AreFronts (line_pieces c) after
 unfolding line_pieces AreFronts text_of class_of
-line_fronts c after h = (word_front c.name _ h.name refl, (blank_front space _ refl, fronts_append (places_pieces c.on) line_end after (places_fronts c.on _ h.on) (end_fronts after)))
+line_fronts c after h = (word_front c.name _ h.name refl, (blank_front (code " ") _ refl, fronts_append (places_pieces c.on) line_end after (places_fronts c.on _ h.on) (end_fronts after)))
 
 lines_fronts : (cs : List Call) (after : List ℕ) → AllByRecursion IsLine cs → AreFronts (lines_pieces cs) after
 unfolding lines_pieces AreFronts
@@ -120,7 +120,7 @@ place_bytes i = refl
 more_bytes : (is : List ℕ) → text_of (more_pieces is) ≡ more_places is
 unfolding more_pieces more_places text_of
 more_bytes [] = refl
-more_bytes (i ∷ is) = ap (λ t. comma ∷ t) (text_append (place_pieces i) (more_pieces is) ∙ ap (λ t. t ++ text_of (more_pieces is)) (place_bytes i) ∙ ap (λ t. place_text i ++ t) (more_bytes is))
+more_bytes (i ∷ is) = ap (λ t. code "," ∷ t) (text_append (place_pieces i) (more_pieces is) ∙ ap (λ t. t ++ text_of (more_pieces is)) (place_bytes i) ∙ ap (λ t. place_text i ++ t) (more_bytes is))
 
 places_bytes : (is : List ℕ) → text_of (places_pieces is) ≡ places_text is
 unfolding places_pieces places_text text_of
@@ -129,7 +129,7 @@ places_bytes (i ∷ is) = text_append (place_pieces i) (more_pieces is) ∙ ap (
 
 line_bytes : (c : Call) → text_of (line_pieces c) ≡ line c
 unfolding line_pieces line text_of
-line_bytes c = ap (λ t. c.name ++ (space ∷ t)) (text_append (places_pieces c.on) line_end ∙ ap (λ t. t ++ codes ";\n") (places_bytes c.on))
+line_bytes c = ap (λ t. c.name ++ (code " " ∷ t)) (text_append (places_pieces c.on) line_end ∙ ap (λ t. t ++ codes ";\n") (places_bytes c.on))
 
 lines_bytes : (cs : List Call) → text_of (lines_pieces cs) ≡ lines cs
 unfolding lines_pieces lines text_of
@@ -230,39 +230,39 @@ qreg_word : IsWord (codes "qreg")
 unfolding class_of
 qreg_word = record { first = 113; more = 114 ∷ 101 ∷ 103 ∷ []; is = refl; letter = refl; run = (refl, (refl, (refl, tt))) }
 
-version_front : (after : List ℕ) → Begins (codes "2.0" ++ (semicolon ∷ after)) (OfKind Real) 3
+version_front : (after : List ℕ) → Begins (codes "2.0" ++ (code ";" ∷ after)) (OfKind Real) 3
 unfolding piece_of number run exponent class_of
-version_front after = begins (codes "2.0" ++ (semicolon ∷ after)) (OfKind Real) 3 refl
+version_front after = begins (codes "2.0" ++ (code ";" ∷ after)) (OfKind Real) 3 refl
 
-file_front : (after : List ℕ) → Begins (codes "\"qelib1.inc\"" ++ (semicolon ∷ after)) (OfKind Text) 12
+file_front : (after : List ℕ) → Begins (codes "\"qelib1.inc\"" ++ (code ";" ∷ after)) (OfKind Text) 12
 unfolding piece_of quoted run class_of
-file_front after = begins (codes "\"qelib1.inc\"" ++ (semicolon ∷ after)) (OfKind Text) 12 refl
+file_front after = begins (codes "\"qelib1.inc\"" ++ (code ";" ∷ after)) (OfKind Text) 12 refl
 
 head_fronts : (q : ℕ) (after : List ℕ) → q < 2 ^ 64 → AreFronts (head_pieces q) after
 unfolding head_pieces AreFronts text_of class_of
 head_fronts q after lt = (
   word_front (codes "OPENQASM") _ qasm_word refl,
   (
-    blank_front space _ refl,
+    blank_front (code " ") _ refl,
     (
       version_front _,
       (
-        mark_front semicolon _ refl,
+        mark_front (code ";") _ refl,
         (
-          feed_front line_feed _ refl,
+          feed_front (code "\n") _ refl,
           (
             word_front (codes "include") _ include_word refl,
             (
-              blank_front space _ refl,
+              blank_front (code " ") _ refl,
               (
                 file_front _,
                 (
-                  mark_front semicolon _ refl,
+                  mark_front (code ";") _ refl,
                   (
-                    feed_front line_feed _ refl,
+                    feed_front (code "\n") _ refl,
                     (
                       word_front (codes "qreg") _ qreg_word refl,
-                      (blank_front space _ refl, fronts_append (place_pieces q) line_end after (place_fronts q _ lt) (end_fronts after)),
+                      (blank_front (code " ") _ refl, fronts_append (place_pieces q) line_end after (place_fronts q _ lt) (end_fronts after)),
                     ),
                   ),
                 ),

@@ -1,9 +1,9 @@
 -- The statements of the text of `demo`.
+use Prim.Native.Char.{code}
 use Rattle.std.proofs.Common.{◌≡◌, ℕ, false, List, [], ◌∷◌, ◌++◌, map, codes, decimal, None, refl, sym, ◌∙◌, ap}
 use Rattle.std.specs.List.{AllByRecursion}
 use Rattle.std.proofs.lemmas.List.{append-nil, append_assoc}
 use Rattle.std.proofs.lemmas.Bool.{cond-false}
-use Rattle.qasm_lex.specs.Characters.{comma, semicolon}
 use Rattle.qasm_lex.specs.Lexemes.{Lexeme, word, mark}
 use Rattle.qasm_forms.specs.Statements.{is_mark, Statement, version, include, qubits, first_word, written_rest, written, ended, written_argument, written_each, listed}
 use Rattle.qasm_reader.specs.Parts.{Part, cut, parts_of}
@@ -22,7 +22,7 @@ place_lex i = written_argument (place_argument i)
 
 more_lex : List ℕ → List Lexeme
 more_lex [] = []
-more_lex (i ∷ is) = mark comma ∷ (place_lex i ++ more_lex is)
+more_lex (i ∷ is) = mark (code ",") ∷ (place_lex i ++ more_lex is)
 
 place_read : (i : ℕ) → lexemes (place_pieces i) ≡ place_lex i
 unfolding lexemes
@@ -31,12 +31,12 @@ place_read i = refl
 more_read : (is : List ℕ) → lexemes (more_pieces is) ≡ more_lex is
 unfolding more_pieces more_lex lexemes
 more_read [] = refl
-more_read (i ∷ is) = ap (λ l. mark comma ∷ l) (lexemes_append (place_pieces i) (more_pieces is) ∙ ap (λ l. l ++ lexemes (more_pieces is)) (place_read i) ∙ ap (λ l. place_lex i ++ l) (more_read is))
+more_read (i ∷ is) = ap (λ l. mark (code ",") ∷ l) (lexemes_append (place_pieces i) (more_pieces is) ∙ ap (λ l. l ++ lexemes (more_pieces is)) (place_read i) ∙ ap (λ l. place_lex i ++ l) (more_read is))
 
 listed_more : (i : ℕ) (is : List ℕ) → listed (written_each (map place_argument (i ∷ is))) ≡ place_lex i ++ more_lex is
 unfolding more_lex
 listed_more i [] = sym (append-nil (place_lex i))
-listed_more i (j ∷ js) = ap (λ l. place_lex i ++ (mark comma ∷ l)) (listed_more j js)
+listed_more i (j ∷ js) = ap (λ l. place_lex i ++ (mark (code ",") ∷ l)) (listed_more j js)
 
 places_read : (is : List ℕ) → lexemes (places_pieces is) ≡ listed (written_each (map place_argument is))
 unfolding places_pieces lexemes
@@ -45,7 +45,7 @@ places_read (i ∷ is) = lexemes_append (place_pieces i) (more_pieces is) ∙ ap
 
 line_read : (c : Call) → lexemes (line_pieces c) ≡ written (line_statement c)
 unfolding line_pieces lexemes
-line_read c = ap (λ l. word c.name ∷ l) (lexemes_append (places_pieces c.on) line_end ∙ ap (λ l. l ++ (mark semicolon ∷ [])) (places_read c.on))
+line_read c = ap (λ l. word c.name ∷ l) (lexemes_append (places_pieces c.on) line_end ∙ ap (λ l. l ++ (mark (code ";") ∷ [])) (places_read c.on))
 
 -- the lexemes of a statement without its end
 abbrev body : Statement → List Lexeme
@@ -53,7 +53,7 @@ body s = word (first_word s) ∷ written_rest s
 
 -- they have no `;`
 abbrev NoStop : List Lexeme → Type 0
-NoStop ls = AllByRecursion (λ l. is_mark semicolon l ≡ false) ls
+NoStop ls = AllByRecursion (λ l. is_mark (code ";") l ≡ false) ls
 
 no_append : (ls ms : List Lexeme) → NoStop ls → NoStop ms → NoStop (ls ++ ms)
 no_append [] ms a b = b
@@ -71,11 +71,11 @@ no_places (i ∷ is) = rw (listed_more i is) (no_append (place_lex i) (more_lex 
 abbrev part : List Lexeme → Part
 part ls = record { lexemes = ls; bad = None }
 
-cut_here : (before ls rest : List Lexeme) → NoStop ls → cut before (ls ++ (mark semicolon ∷ rest)) None ≡ part (before ++ ended ls) ∷ parts_of rest None
+cut_here : (before ls rest : List Lexeme) → NoStop ls → cut before (ls ++ (mark (code ";") ∷ rest)) None ≡ part (before ++ ended ls) ∷ parts_of rest None
 unfolding cut
 cut_here before [] rest h = refl
 cut_here before (l ∷ ls) rest h =
-    cond-false (is_mark semicolon l) (part (before ++ l ∷ []) ∷ parts_of (ls ++ (mark semicolon ∷ rest)) None) (cut (before ++ l ∷ []) (ls ++ (mark semicolon ∷ rest)) None) h.0
+    cond-false (is_mark (code ";") l) (part (before ++ l ∷ []) ∷ parts_of (ls ++ (mark (code ";") ∷ rest)) None) (cut (before ++ l ∷ []) (ls ++ (mark (code ";") ∷ rest)) None) h.0
     ∙ cut_here (before ++ l ∷ []) ls rest h.1
     ∙ ap (λ x. part x ∷ parts_of rest None) (append_assoc before (l ∷ []) (ended ls))
 
@@ -84,7 +84,7 @@ unfolding lines_pieces lexemes cut
 lines_parts [] = refl
 lines_parts (c ∷ cs) =
     let s = body (line_statement c) in
-    ap (λ l. parts_of l None) (lexemes_append (line_pieces c) (lines_pieces cs) ∙ ap (λ l. l ++ lexemes (lines_pieces cs)) (line_read c) ∙ append_assoc s (mark semicolon ∷ []) (lexemes (lines_pieces cs)))
+    ap (λ l. parts_of l None) (lexemes_append (line_pieces c) (lines_pieces cs) ∙ ap (λ l. l ++ lexemes (lines_pieces cs)) (line_read c) ∙ append_assoc s (mark (code ";") ∷ []) (lexemes (lines_pieces cs)))
     ∙ cut_here [] s (lexemes (lines_pieces cs)) (refl, no_places c.on)
     ∙ ap (λ ps. closed_part (line_statement c) ∷ ps) (lines_parts cs)
 
@@ -112,5 +112,5 @@ demo_parts q n seed =
     let r = body (qubits (codes "q") (decimal q)) in
     ap (λ l. parts_of (lexemes (head_pieces q ++ l)) None) (sym (lines_join (first_calls q) (calls_drawn q n seed)))
     ∙ ap (λ l. parts_of l None) (lexemes_append (head_pieces q) rest ∙ ap (λ l. l ++ more) (head_read q))
-    ∙ cut_here [] v (i ++ (mark semicolon ∷ (r ++ (mark semicolon ∷ more)))) (refl, (refl, tt))
-    ∙ ap (λ ps. closed_part version ∷ ps) (cut_here [] i (r ++ (mark semicolon ∷ more)) (refl, (refl, tt)) ∙ ap (λ ps. part (ended i) ∷ ps) (cut_here [] r more (refl, (refl, (refl, (refl, (refl, tt))))) ∙ ap (λ ps. part (ended r) ∷ ps) (lines_parts (demo_calls q n seed) ∙ map_map (demo_calls q n seed))))
+    ∙ cut_here [] v (i ++ (mark (code ";") ∷ (r ++ (mark (code ";") ∷ more)))) (refl, (refl, tt))
+    ∙ ap (λ ps. closed_part version ∷ ps) (cut_here [] i (r ++ (mark (code ";") ∷ more)) (refl, (refl, tt)) ∙ ap (λ ps. part (ended i) ∷ ps) (cut_here [] r more (refl, (refl, (refl, (refl, (refl, tt))))) ∙ ap (λ ps. part (ended r) ∷ ps) (lines_parts (demo_calls q n seed) ∙ map_map (demo_calls q n seed))))

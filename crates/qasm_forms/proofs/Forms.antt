@@ -1,6 +1,7 @@
 -- The statement that is read is written so.
 use Rattle.std.proofs.Common.{◌≡◌, ◌∙◌, sym, ap, refl, subst, ℕ, Bool, true, false, cond, ◌||◌, List, [], ◌∷◌, ◌++◌, arith, Option, Some, None, append_assoc, codes}
 use Rattle.std.specs.List.{AllByRecursion, list_any}
+use Rattle.std.specs.Option.{option_map_or}
 use Rattle.std.specs.Str.{bytes_eq}
 use Rattle.std.proofs.lemmas.Bool.{and_parts}
 use Rattle.std.proofs.lemmas.Option.{cond_some, same_Some}
@@ -10,7 +11,7 @@ use Rattle.qasm_lex.specs.Lexemes.{Lexeme, word, real, quoted, arrow, mark}
 use Rattle.qasm_forms.specs.Statements.{Statement, version, include, qubits, bits, barrier, measure, call, AreAngles, IsAngle, Formed, first_word, written_rest, written_argument, written_angles, listed, is_name, is_left_out}
 use Rattle.qasm_forms.specs.Private.Fronts.{and_then, mark_at}
 use Rattle.qasm_forms.specs.Cutting.{is_nothing, before_stop, has_stop, after_stop}
-use Rattle.qasm_forms.specs.Private.Parsing.{argument_at, arguments_at, scan, filled, angles_from, angles_at, declaration_at, is_version, included_at, measure_at, call_from, call_at, after_word, statement_at}
+use Rattle.qasm_forms.specs.Private.Parsing.{argument_at, arguments_at, scan, filled, angles_at, declaration_at, is_version, included_at, measure_at, call_from, call_at, after_word, statement_at}
 use Rattle.qasm_forms.proofs.Found.{and_then_some, mark_found, end_found, declaration_found, argument_found, arguments_found}
 use Rattle.qasm_forms.proofs.Nesting.{IsPart, scan_found}
 
@@ -88,7 +89,7 @@ filled_found ls p (Some q) s e = by (list_any is_nothing q.0) refl
           formed = subst (AllByRecursion IsAngle) (sym f.are) (angles_of (f.first ∷ f.more) (f.part, f.rest) some);
         })
 
-angles_found : (ls : List Lexeme) (p : List (List Lexeme) × List Lexeme) (x : Option (List Lexeme)) → mark_at 41 ls ≡ x → angles_from ls x ≡ Some p → ReadsAngles ls p
+angles_found : (ls : List Lexeme) (p : List (List Lexeme) × List Lexeme) (x : Option (List Lexeme)) → mark_at 41 ls ≡ x → option_map_or (λ rest. Some ([], rest)) x (filled (scan 0 ls)) ≡ Some p → ReadsAngles ls p
 angles_found ls p None m e = filled_found ls p (scan 0 ls) refl e
 angles_found ls p (Some rest) m e =
     let r : ([], rest) ≡ p = same_Some ([], rest) p e in

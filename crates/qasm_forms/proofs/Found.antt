@@ -1,13 +1,13 @@
 -- What is read is written so.
 use Rattle.std.proofs.Common.{◌≡◌, ◌∙◌, sym, ap, refl, subst, ◌<◌, ℕ, Bool, true, false, cond, nat_eq, List, [], ◌∷◌, length, arith, Option, Some, None}
-use Rattle.std.specs.List.{AllByRecursion}
+use Rattle.std.specs.List.{AllByRecursion, onto_first}
 use Rattle.qasm_forms.specs.declared.lexemes.Stop.TheVariants.{Comma}
 use Rattle.qasm_lex.specs.Lexemes.{Lexeme, word, whole, mark}
 use Rattle.qasm_forms.specs.Statements.{Argument, IsArgument, AreArguments, written_argument, written_index, written_each, listed, is_name}
 use Rattle.qasm_forms.specs.Private.Fronts.{and_then, name_at, digits_at, mark_at, at_end, index_at}
 use Rattle.qasm_forms.specs.Cutting.{is_stop, before_stop, has_stop, after_stop}
-use Rattle.qasm_forms.specs.Private.Parsing.{lead, split, indexed, argument_at, gather, arguments_at, declaration_at}
-use Rattle.qasm_forms.proofs.Listed.{split_cut}
+use Rattle.qasm_forms.specs.Private.Parsing.{indexed, argument_at, gather, arguments_at, declaration_at}
+use Rattle.qasm_forms.proofs.Listed.{split, split_cut}
 use Rattle.qasm_forms.proofs.Nesting.{mark_is, listed_led}
 use Rattle.std.proofs.lemmas.Bool.{eqb-true}
 use Rattle.std.proofs.lemmas.Option.{cond_some, same_Some}
@@ -96,10 +96,10 @@ split_joined (l ∷ ls) = by (is_stop Comma l) refl (split_begun ls) (split_join
   where
     by : (x : Bool) → is_stop Comma l ≡ x → Begun (split ls) → listed (split ls) ≡ ls → listed (split (l ∷ ls)) ≡ l ∷ ls
     by true e b more =
-        ap (λ x. listed (cond x ([] ∷ split ls) (lead l (split ls)))) e ∙ ap (λ r. listed ([] ∷ r)) b.are
+        ap (λ x. listed (cond x ([] ∷ split ls) (onto_first l (split ls)))) e ∙ ap (λ r. listed ([] ∷ r)) b.are
         ∙ ap (λ r. mark 44 ∷ r) (sym (ap listed b.are) ∙ more) ∙ ap (λ x. x ∷ ls) (sym (mark_is 44 l e))
     by false e b more =
-        ap (λ x. listed (cond x ([] ∷ split ls) (lead l (split ls)))) e ∙ ap (λ r. listed (lead l r)) b.are
+        ap (λ x. listed (cond x ([] ∷ split ls) (onto_first l (split ls)))) e ∙ ap (λ r. listed (onto_first l r)) b.are
         ∙ listed_led l b.first b.more ∙ ap (λ r. l ∷ r) (sym (ap listed b.are) ∙ more)
 
 each_some : (all : List Argument) (x : List Lexeme) (xs : List (List Lexeme)) → x ∷ xs ≡ written_each all → 0 < length all

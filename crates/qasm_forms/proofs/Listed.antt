@@ -1,6 +1,7 @@
 -- Arguments between commas and angles up to a parenthesis, one after the other.
-use Rattle.std.proofs.Common.{◌≡◌, ◌∙◌, sym, ap, refl, ◌<◌, ℕ, Bool, true, false, ◌||◌, cond, List, [], ◌∷◌, length, arith, Option, Some, None, is_some, not, MatchOption, subst}
-use Rattle.std.specs.List.{list_any}
+use Rattle.std.proofs.Common.{◌≡◌, ◌∙◌, sym, ap, refl, ◌<◌, ℕ, Bool, true, false, ◌||◌, cond, List, [], ◌∷◌, length, arith, Option, Some, None, is_some, unwrap_or, not, MatchOption, subst}
+use Rattle.std.specs.List.{list_any, onto_first, slice_split}
+use Rattle.std.specs.Option.{option_map_or}
 use Rattle.qasm_forms.specs.declared.lexemes.Stop.{Stop}
 use Rattle.qasm_forms.specs.declared.lexemes.Stop.TheVariants.{Comma}
 use Rattle.qasm_lex.specs.Lexemes.{Lexeme}
@@ -8,7 +9,11 @@ use Rattle.qasm_forms.specs.Statements.{is_mark}
 use Rattle.qasm_forms.specs.Statements.{Argument}
 use Rattle.qasm_forms.specs.Private.Fronts.{and_then, then_angle, ends_angle, deeper, angle_at, led_by}
 use Rattle.qasm_forms.specs.Cutting.{is_stop, before_stop, has_stop, after_stop, is_nothing}
-use Rattle.qasm_forms.specs.Private.Parsing.{lead, split, argument_at, gather, arguments_at, or_none, left_arguments, lead_angle, next_angle, scan, filled, angles_in, behind_angles, left_angles}
+use Rattle.qasm_forms.specs.Private.Parsing.{argument_at, gather, arguments_at, left_arguments, lead_angle, next_angle, scan, filled, behind_angles, left_angles}
+
+-- the parts between commas
+abbrev pub split : List Lexeme → List (List Lexeme)
+split ls = slice_split (is_stop Comma) ls
 
 -- the first part, and those after it
 pub split_cut : (ls : List Lexeme) → split ls ≡ before_stop Comma ls ∷ cond (has_stop Comma ls) (split (after_stop Comma ls)) []
@@ -18,7 +23,7 @@ split_cut (l ∷ ls) = by (is_stop Comma l) refl (split_cut ls)
     by : (x : Bool) → is_stop Comma l ≡ x → split ls ≡ before_stop Comma ls ∷ cond (has_stop Comma ls) (split (after_stop Comma ls)) []
         → split (l ∷ ls) ≡ before_stop Comma (l ∷ ls) ∷ cond (has_stop Comma (l ∷ ls)) (split (after_stop Comma (l ∷ ls))) []
     by true e more = rw e refl
-    by false e more = rw e (ap (lead l) more)
+    by false e more = rw e (ap (onto_first l) more)
 
 -- the rest after a separator is shorter
 pub after_shorter : (stop : Stop) (ls : List Lexeme) → has_stop stop ls ≡ true → length (after_stop stop ls) < length ls
@@ -75,20 +80,24 @@ next_argument ls h = by (argument_at (before_stop Comma ls)) refl (has_stop Comm
       argument = a;
       is = e;
       all =
-          ap or_none (arguments_step ls ∙ ap (λ x. step x (cond (has_stop Comma ls) (arguments_at (after_stop Comma ls)) (Some []))) e
+          ap (λ x. unwrap_or x []) (arguments_step ls ∙ ap (λ x. step x (cond (has_stop Comma ls) (arguments_at (after_stop Comma ls)) (Some []))) e
           ∙ ap (λ b. step (Some a) (cond b (arguments_at (after_stop Comma ls)) (Some []))) f ∙ ap (step (Some a)) g)
-          ∙ sym (ap (λ b. a ∷ left_arguments (not b) (after_stop Comma ls)) f ∙ ap (λ r. a ∷ or_none r) g);
+          ∙ sym (ap (λ b. a ∷ left_arguments (not b) (after_stop Comma ls)) f ∙ ap (λ r. a ∷ unwrap_or r []) g);
       more = λ _. ap is_some g;
     }
     by (Some a) e false f r g = record {
       argument = a;
       is = e;
       all =
-          ap or_none (arguments_step ls ∙ ap (λ x. step x (cond (has_stop Comma ls) (arguments_at (after_stop Comma ls)) (Some []))) e
+          ap (λ x. unwrap_or x []) (arguments_step ls ∙ ap (λ x. step x (cond (has_stop Comma ls) (arguments_at (after_stop Comma ls)) (Some []))) e
           ∙ ap (λ b. step (Some a) (cond b (arguments_at (after_stop Comma ls)) (Some []))) f)
           ∙ sym (ap (λ b. a ∷ left_arguments (not b) (after_stop Comma ls)) f);
       more = λ n. absurd (let q : true ≡ false = sym (ap not f) ∙ n in cc);
     }
+
+-- the angles that were read
+abbrev angles_in : Option (List (List Lexeme) × List Lexeme) → List (List Lexeme)
+angles_in read = option_map_or (λ p. p.0) read []
 
 -- the first angle, and those after it
 abbrev pub scanned : Option (List Lexeme × Bool × List Lexeme) → Option (List (List Lexeme) × List Lexeme)

@@ -1,12 +1,12 @@
 -- Parentheses of angles: the scan of an angle ends where its parentheses balance.
 use Rattle.std.proofs.Common.{◌≡◌, ◌∙◌, sym, ap, refl, subst, ◌≤◌, ◌<◌, ℕ, zero, suc, ◌+◌, ◌-◌, Bool, true, false, cond, ◌||◌, ◌&&◌, nat_eq, List, [], ◌∷◌, ◌++◌, length, filter, arith, Option, Some, None}
-use Rattle.std.specs.List.{AllByRecursion}
+use Rattle.std.specs.List.{AllByRecursion, onto_first}
 use Rattle.std.proofs.lemmas.Bool.{eqb-true, and_parts, false_from_ne_true}
 use Rattle.qasm_lex.specs.Lexemes.{Lexeme, mark}
 use Rattle.qasm_forms.specs.Statements.{is_mark}
 use Rattle.qasm_forms.specs.Statements.{listed, opening, closing}
 use Rattle.qasm_forms.specs.Private.Fronts.{ends_angle, deeper}
-use Rattle.qasm_forms.specs.Private.Parsing.{lead, lead_angle, next_angle, scan}
+use Rattle.qasm_forms.specs.Private.Parsing.{lead_angle, next_angle, scan}
 
 -- a part of an angle, where so many parentheses are open before it
 pub record IsPart (depth : ℕ) (a : List Lexeme) : Type 0 where
@@ -135,11 +135,11 @@ scans_lead : (depth : ℕ) (l : Lexeme) (ls : List Lexeme) (p : List (List Lexem
 scans_lead depth l ls p None s more e h = absurd cc
 scans_lead depth l ls p (Some q) s more e h =
     let f = more q s in
-    let g : (lead l q.0, q.1) ≡ p = cc in
+    let g : (onto_first l q.0, q.1) ≡ p = cc in
     subst (Scans depth (l ∷ ls)) g (record {
       first = l ∷ f.first;
       more = f.more;
-      are = ap (lead l) f.are;
+      are = ap (onto_first l) f.are;
       part = part_lead depth l f.first e f.part;
       rest = f.rest;
       joined = ap (λ r. l ∷ r) f.joined ∙ ap (λ r. r ++ (mark 41 ∷ q.1)) (sym (listed_led l f.first f.more));

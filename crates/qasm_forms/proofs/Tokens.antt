@@ -1,5 +1,6 @@
 -- Parts of the tokens of a text, and their lexemes.
-use Rattle.std.proofs.Common.{◌≡◌, ◌∙◌, sym, ap, refl, ℕ, suc, ◌+◌, ◌-◌, Bool, true, false, ◌&&◌, ◌||◌, cond, nat_eq, nat_lt, List, [], ◌∷◌, length, take, drop, arith, Option, Some, None}
+use Rattle.std.proofs.Common.{◌≡◌, ◌∙◌, sym, ap, refl, ℕ, suc, ◌+◌, ◌-◌, Bool, true, false, ◌&&◌, ◌||◌, cond, nat_eq, nat_lt, List, [], ◌∷◌, length, take, drop, arith, Option, Some, None, not}
+use Rattle.std.specs.List.{position_or_len}
 use Rattle.qasm_lex.specs.declared.token.Token.{Token}
 use Rattle.qasm_lex.specs.declared.token.TokenKind.{TokenKind}
 use Rattle.qasm_lex.specs.declared.token.TokenKind.TheVariants.{Arrow, Mark}
@@ -8,15 +9,19 @@ use Rattle.qasm_lex.specs.Lexemes.{Lexeme, lexeme_of, lexemes_of, of_kind}
 use Rattle.qasm_forms.specs.declared.lexemes.Stop.{Stop}
 use Rattle.qasm_forms.specs.declared.lexemes.Stop.TheVariants.{Semicolon, Comma, To}
 use Rattle.qasm_forms.specs.Statements.{is_mark}
-use Rattle.qasm_forms.specs.Private.Fronts.{ends_kind, stop_place, ends_angle, deeper, plus, angle_place, angle_at, led_by}
+use Rattle.qasm_forms.specs.Private.Fronts.{ends_angle, deeper, plus, angle_place, angle_at, led_by}
 use Rattle.qasm_forms.specs.Cutting.{is_stop, before_stop, has_stop, after_stop}
+
+-- how many tokens stand before the first separator
+abbrev pub stop_place : Stop → List Token → ℕ
+stop_place stop tokens = position_or_len (λ t. is_stop stop (of_kind t.kind [])) tokens
 
 -- marks and separators are told by their kinds
 mark_by_kind : (b : ℕ) (kind : TokenKind) (bytes : List ℕ) → is_mark b (of_kind kind []) ≡ is_mark b (of_kind kind bytes)
 mark_by_kind b (Mark m) bytes = refl
 mark_by_kind b _ bytes = refl
 
-stop_by_kind : (stop : Stop) (kind : TokenKind) (bytes : List ℕ) → ends_kind stop kind ≡ is_stop stop (of_kind kind bytes)
+stop_by_kind : (stop : Stop) (kind : TokenKind) (bytes : List ℕ) → is_stop stop (of_kind kind []) ≡ is_stop stop (of_kind kind bytes)
 stop_by_kind Semicolon kind bytes = mark_by_kind 59 kind bytes
 stop_by_kind Comma kind bytes = mark_by_kind 44 kind bytes
 stop_by_kind To Arrow bytes = refl
@@ -34,16 +39,16 @@ pub record CutAt (stop : Stop) (text : List ℕ) (tokens : List Token) : Type 0 
   pub found : has_stop stop (lexemes_of text tokens) ≡ nat_lt (stop_place stop tokens) (length tokens)
   pub rest : after_stop stop (lexemes_of text tokens) ≡ lexemes_of text (drop (suc (stop_place stop tokens)) tokens)
 
-cut_step : (stop : Stop) (text : List ℕ) (t : Token) (tokens : List Token) → CutAt stop text tokens → (x : Bool) → ends_kind stop t.kind ≡ x → is_stop stop (lexeme_of text t) ≡ x → CutAt stop text (t ∷ tokens)
+cut_step : (stop : Stop) (text : List ℕ) (t : Token) (tokens : List Token) → CutAt stop text tokens → (x : Bool) → is_stop stop (of_kind t.kind []) ≡ x → is_stop stop (lexeme_of text t) ≡ x → CutAt stop text (t ∷ tokens)
 cut_step stop text t tokens c true e f =
-    let place : stop_place stop (t ∷ tokens) ≡ 0 = ap (λ x. cond x 0 (1 + stop_place stop tokens)) e in
+    let place : stop_place stop (t ∷ tokens) ≡ 0 = ap (λ x. cond (not x) (1 + stop_place stop tokens) 0) e in
     record {
       front = ap (λ x. cond x [] (lexeme_of text t ∷ before_stop stop (lexemes_of text tokens))) f ∙ sym (ap (λ n. lexemes_of text (take n (t ∷ tokens))) place);
       found = ap (λ x. cond x true (has_stop stop (lexemes_of text tokens))) f ∙ sym (ap (λ n. nat_lt n (suc (length tokens))) place ∙ less_zero (length tokens));
       rest = ap (λ x. cond x (lexemes_of text tokens) (after_stop stop (lexemes_of text tokens))) f ∙ sym (ap (λ n. lexemes_of text (drop (suc n) (t ∷ tokens))) place);
     }
 cut_step stop text t tokens c false e f =
-    let place : stop_place stop (t ∷ tokens) ≡ suc (stop_place stop tokens) = ap (λ x. cond x 0 (1 + stop_place stop tokens)) e ∙ omega arith in
+    let place : stop_place stop (t ∷ tokens) ≡ suc (stop_place stop tokens) = ap (λ x. cond (not x) (1 + stop_place stop tokens) 0) e ∙ omega arith in
     record {
       front = ap (λ x. cond x [] (lexeme_of text t ∷ before_stop stop (lexemes_of text tokens))) f ∙ ap (λ x. lexeme_of text t ∷ x) c.front ∙ sym (ap (λ n. lexemes_of text (take n (t ∷ tokens))) place);
       found = ap (λ x. cond x true (has_stop stop (lexemes_of text tokens))) f ∙ c.found ∙ sym (ap (λ n. nat_lt n (suc (length tokens))) place ∙ less_step (stop_place stop tokens) (length tokens));
@@ -52,7 +57,7 @@ cut_step stop text t tokens c false e f =
 
 pub cut_at : (stop : Stop) (text : List ℕ) (tokens : List Token) → CutAt stop text tokens
 cut_at stop text [] = record { front = refl; found = refl; rest = refl }
-cut_at stop text (t ∷ tokens) = cut_step stop text t tokens (cut_at stop text tokens) (ends_kind stop t.kind) refl (sym (stop_by_kind stop t.kind _))
+cut_at stop text (t ∷ tokens) = cut_step stop text t tokens (cut_at stop text tokens) (is_stop stop (of_kind t.kind [])) refl (sym (stop_by_kind stop t.kind _))
 
 deeper_by_kind : (depth : ℕ) (kind : TokenKind) (bytes : List ℕ) → deeper depth (of_kind kind []) ≡ deeper depth (of_kind kind bytes)
 deeper_by_kind depth kind bytes =

@@ -1,6 +1,7 @@
 -- What is written as a formed statement is read as it.
 use Rattle.std.proofs.Common.{◌≡◌, ◌∙◌, sym, ap, refl, ◌<◌, ℕ, true, false, cond, ◌||◌, List, [], ◌∷◌, ◌++◌, length, arith, Option, Some, None, append_assoc, codes}
 use Rattle.std.specs.List.{AllByRecursion, list_any}
+use Rattle.std.specs.Option.{option_map_or}
 use Rattle.std.specs.Str.{bytes_eq}
 use Rattle.std.proofs.lemmas.Slice.Eq.{bytes_eq-Decides}
 use Rattle.qasm_forms.specs.declared.lexemes.Stop.TheVariants.{To}
@@ -9,8 +10,9 @@ use Rattle.qasm_forms.specs.Statements.{is_mark}
 use Rattle.qasm_forms.specs.Statements.{Argument, Statement, version, include, qubits, bits, barrier, measure, call, left_out, IsArgument, AreArguments, AreAngles, IsAngle, Formed, first_word, written_rest, written_argument, written_index, written_angles, written_each, listed, is_name, is_left_out}
 use Rattle.qasm_forms.specs.Private.Fronts.{and_then, mark_at, index_at, deeper}
 use Rattle.qasm_forms.specs.Cutting.{is_nothing, before_stop, has_stop, after_stop}
-use Rattle.qasm_forms.specs.Private.Parsing.{split, gather, argument_at, indexed, arguments_at, scan, lead_angle, next_angle, filled, angles_from, angles_at, declaration_at, measure_at, call_from, call_at, after_word, statement_at}
+use Rattle.qasm_forms.specs.Private.Parsing.{gather, argument_at, indexed, arguments_at, scan, lead_angle, next_angle, filled, angles_at, declaration_at, measure_at, call_from, call_at, after_word, statement_at}
 use Rattle.qasm_forms.proofs.Nesting.{IsPart, part_rest}
+use Rattle.qasm_forms.proofs.Listed.{split}
 use Rattle.std.proofs.lemmas.Bool.{or_parts, cond-false, false_from_ne_true}
 
 argument_by : (name : List ℕ) (index : Option (List ℕ)) → is_name name ≡ true → argument_at (word name ∷ written_index index) ≡ Some (record { name = name; index = index })
@@ -99,7 +101,7 @@ begins_listed a (b ∷ all) ls h = ap (mark_at 41) (append_assoc a (mark 44 ∷ 
 angles_written : (all : List (List Lexeme)) (r : List Lexeme) → AllByRecursion IsAngle all → angles_at (listed all ++ (mark 41 ∷ r)) ≡ Some (all, r)
 angles_written [] r h = refl
 angles_written (a ∷ all) r h =
-    ap (angles_from (listed (a ∷ all) ++ (mark 41 ∷ r))) (begins_listed a all (mark 41 ∷ r) h.0) ∙ ap filled (scan_written a all r h)
+    ap (λ x. option_map_or (λ rest. Some ([], rest)) x (filled (scan 0 (listed (a ∷ all) ++ (mark 41 ∷ r))))) (begins_listed a all (mark 41 ∷ r) h.0) ∙ ap filled (scan_written a all r h)
     ∙ ap (λ b. cond b None (Some (a ∷ all, r))) (all_some (a ∷ all) h)
 
 no_angles : (all : List Argument) → AreArguments all → mark_at 40 (listed (written_each all)) ≡ None

@@ -1,5 +1,5 @@
 -- The statement that a form of the code stands for.
-use Rattle.std.specs.Prelude.{Option, Some, None}
+use Rattle.std.specs.Prelude.{Option, option_map}
 use Rattle.qasm_forms.specs.Statements.{Statement, version, include, qubits, bits, barrier, measure, call, left_out}
 use Rattle.qasm_forms.specs.declared.statement.Form.{Form}
 use Rattle.qasm_forms.specs.declared.statement.Form.TheVariants.{Version, Include, Qubits, Bits, Barrier, Measure, Call, LeftOut}
@@ -15,5 +15,4 @@ shown (Call name angles all) = call name.now angles all
 shown (LeftOut name more) = left_out name.now more
 
 abbrev pub shown_if : Option Form → Option Statement
-shown_if None = None
-shown_if (Some form) = Some (shown form)
+shown_if form = option_map shown form

@@ -1,8 +1,8 @@
 -- Statements of OpenQASM 2.0 as trees, and how each is written.
-use Rattle.std.specs.Prelude.{◌≡◌, ℕ, ◌≤◌, ◌<◌, Bool, true, false, ◌&&◌, not, List, [], ◌∷◌, ◌++◌, length, filter, nat_eq, Option, Some, None, codes}
+use Prim.Native.Char.{code}
+use Rattle.std.specs.Prelude.{◌≡◌, ℕ, ◌≤◌, ◌<◌, Bool, true, false, ◌&&◌, not, List, [], ◌∷◌, ◌++◌, length, filter, map, nat_eq, Option, Some, None, unwrap_or, codes}
 use Rattle.std.specs.List.{AllByRecursion, list_any}
 use Rattle.std.specs.Str.{bytes_eq}
-use Rattle.qasm_lex.specs.Characters.{semicolon, comma, opening_parenthesis, closing_parenthesis, opening_bracket, closing_bracket}
 use Rattle.qasm_lex.specs.Bytes.{is_small}
 use Rattle.qasm_lex.specs.Lexemes.{Lexeme, word, whole, real, quoted, arrow, mark}
 
@@ -30,7 +30,7 @@ pub data Statement : Type 0 where
 -- `[INDEX]` or nothing
 abbrev pub written_index : Option (List ℕ) → List Lexeme
 written_index None = []
-written_index (Some digits) = mark opening_bracket ∷ whole digits ∷ mark closing_bracket ∷ []
+written_index (Some digits) = mark (code "[") ∷ whole digits ∷ mark (code "]") ∷ []
 
 -- `NAME` or `NAME[INDEX]`
 abbrev pub written_argument : Argument → List Lexeme
@@ -40,16 +40,15 @@ written_argument a = word a.name ∷ written_index a.index
 abbrev pub listed : List (List Lexeme) → List Lexeme
 listed [] = []
 listed (x ∷ []) = x
-listed (x ∷ y ∷ ys) = x ++ (mark comma ∷ listed (y ∷ ys))
+listed (x ∷ y ∷ ys) = x ++ (mark (code ",") ∷ listed (y ∷ ys))
 
 abbrev pub written_each : List Argument → List (List Lexeme)
-written_each [] = []
-written_each (a ∷ more) = written_argument a ∷ written_each more
+written_each arguments = map written_argument arguments
 
 -- `(ANGLE, ANGLE ..)`, `()` or nothing
 abbrev pub written_angles : Option (List (List Lexeme)) → List Lexeme
 written_angles None = []
-written_angles (Some angles) = mark opening_parenthesis ∷ (listed angles ++ (mark closing_parenthesis ∷ []))
+written_angles (Some angles) = mark (code "(") ∷ (listed angles ++ (mark (code ")") ∷ []))
 
 -- the word that a statement begins with
 abbrev pub first_word : Statement → List ℕ
@@ -66,8 +65,8 @@ first_word (left_out name more) = name
 abbrev pub written_rest : Statement → List Lexeme
 written_rest version = real (codes "2.0") ∷ []
 written_rest (include text) = quoted text ∷ []
-written_rest (qubits name size) = word name ∷ mark opening_bracket ∷ whole size ∷ mark closing_bracket ∷ []
-written_rest (bits name size) = word name ∷ mark opening_bracket ∷ whole size ∷ mark closing_bracket ∷ []
+written_rest (qubits name size) = word name ∷ mark (code "[") ∷ whole size ∷ mark (code "]") ∷ []
+written_rest (bits name size) = word name ∷ mark (code "[") ∷ whole size ∷ mark (code "]") ∷ []
 written_rest (barrier arguments) = listed (written_each arguments)
 written_rest (measure from to) = written_argument from ++ (arrow ∷ written_argument to)
 written_rest (call name angles arguments) = written_angles angles ++ listed (written_each arguments)
@@ -75,7 +74,7 @@ written_rest (left_out name more) = more
 
 -- lexemes with the end of a statement
 abbrev pub ended : List Lexeme → List Lexeme
-ended lexemes = lexemes ++ mark semicolon ∷ []
+ended lexemes = lexemes ++ mark (code ";") ∷ []
 
 -- how a statement is written, its end included
 abbrev pub written : Statement → List Lexeme
@@ -94,17 +93,17 @@ is_name bytes = begins_small bytes && not (list_any (bytes_eq bytes) keywords)
 
 -- how many parentheses open, and how many close
 abbrev pub opening : List Lexeme → ℕ
-opening lexemes = length (filter (is_mark opening_parenthesis) lexemes)
+opening lexemes = length (filter (is_mark (code "(")) lexemes)
 
 abbrev pub closing : List Lexeme → ℕ
-closing lexemes = length (filter (is_mark closing_parenthesis) lexemes)
+closing lexemes = length (filter (is_mark (code ")")) lexemes)
 
 -- an angle is at least one lexeme; its parentheses balance, and each comma stands within some
 pub record IsAngle (lexemes : List Lexeme) : Type 0 where
   pub some : 0 < length lexemes
   pub balanced : closing lexemes ≡ opening lexemes
   pub nested : (before after : List Lexeme) → lexemes ≡ before ++ after → closing before ≤ opening before
-  pub inside : (before after : List Lexeme) → lexemes ≡ before ++ (mark comma ∷ after) → closing before < opening before
+  pub inside : (before after : List Lexeme) → lexemes ≡ before ++ (mark (code ",") ∷ after) → closing before < opening before
 
 abbrev pub IsArgument : Argument → Type 0
 IsArgument a = is_name a.name ≡ true
@@ -115,8 +114,7 @@ pub record AreArguments (arguments : List Argument) : Type 0 where
   pub each : AllByRecursion IsArgument arguments
 
 abbrev pub AreAngles : Option (List (List Lexeme)) → Type 0
-AreAngles None = Unit {0}
-AreAngles (Some angles) = AllByRecursion IsAngle angles
+AreAngles angles = AllByRecursion IsAngle (unwrap_or angles [])
 
 -- the parts of a statement are what the grammar asks for
 abbrev pub Formed : Statement → Type 0

@@ -1,8 +1,8 @@
 //! Arguments of statements, and declared sizes.
-ghost use Rattle.std.specs.Prelude.{◌≡◌};
+ghost use Rattle.std.specs.Prelude.{◌≡◌, option_map};
 ghost use Rattle.qasm_forms.specs.Private.Fronts.{index_at};
 ghost use Rattle.qasm_forms.specs.Cutting.{seen_bytes};
-ghost use Rattle.qasm_forms.specs.Private.Parsing.{seen_pair, declaration_at, argument_at};
+ghost use Rattle.qasm_forms.specs.Private.Parsing.{declaration_at, argument_at};
 
 use crate::lexemes::Lexemes;
 use std::marker::Model;
@@ -59,7 +59,7 @@ fn read_index<'a>(lexemes: &mut Lexemes<'a>) -> Option<&'a [u8]>
 
 /// A name with a size.
 pub fn read_declaration<'a>(lexemes: &mut Lexemes<'a>) -> Option<(&'a [u8], &'a [u8])>
-    ensures { seen_pair result ≡ declaration_at lexemes.old }
+    ensures { option_map (λ p. (p.0.now, p.1.now)) result ≡ declaration_at lexemes.old }
 {
     let name = lexemes.name()?;
     let size = read_index(lexemes)?;

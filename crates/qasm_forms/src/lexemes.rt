@@ -1,6 +1,6 @@
 //! The tokens of a part of a text, with their bytes, read from the front.
 ghost use Rattle.std.specs.Prelude.{◌≡◌, ◌≤◌, ◌<◌, Result, ◌∷◌, [], false, All, length, drop, suc, MatchOption, IfSome};
-ghost use Rattle.std.specs.List.{list_any};
+ghost use Rattle.std.specs.List.{list_any, position_or_len};
 ghost use Rattle.std.specs.Str.{bytes_eq};
 ghost use Rattle.qasm_lex.specs.declared.refusal.AngleRefusal.{AngleRefusal};
 ghost use Rattle.qasm_lex.specs.Fractions.{Ratio};
@@ -8,8 +8,8 @@ ghost use Rattle.qasm_lex.specs.Angles.{IsAnswer, answer_of};
 ghost use Rattle.qasm_lex.specs.Lexemes.{IsWithin, lexemes_of, lexeme_of, of_kind};
 ghost use Rattle.qasm_lex.specs.Symbols.{symbols};
 ghost use Rattle.qasm_forms.specs.Statements.{is_mark, is_name, begins_small, keywords};
-ghost use Rattle.qasm_forms.specs.Private.Fronts.{seen, then_bytes, name_at, digits_at, mark_at, marked, stop_place, ends_kind, ends_angle, deeper, angle_place, angle_at, then_angle, plus};
-ghost use Rattle.qasm_forms.specs.Cutting.{seen_bytes, word_at, is_nothing, before_stop, has_stop, after_stop};
+ghost use Rattle.qasm_forms.specs.Private.Fronts.{seen, then_bytes, name_at, digits_at, mark_at, marked, ends_angle, deeper, angle_place, angle_at, then_angle, plus};
+ghost use Rattle.qasm_forms.specs.Cutting.{seen_bytes, word_at, is_nothing, is_stop, before_stop, has_stop, after_stop};
 
 use qasm_lex::{AngleRefusal, PiFraction, Token, TokenKind, angle, is_one_of};
 use std::marker::Model;
@@ -209,7 +209,7 @@ fn lexeme_of(text: &[u8], token: Token) -> Lexeme<'_>
 }
 
 fn ends(kind: TokenKind, stop: Stop) -> bool
-    ensures { result ≡ ends_kind stop kind }
+    ensures { result ≡ is_stop stop (of_kind kind []) }
 {
     match kind {
         TokenKind::Mark(mark) => match stop {
@@ -232,7 +232,7 @@ fn ends(kind: TokenKind, stop: Stop) -> bool
 
 // How many tokens stand before the first separator.
 fn stop_place(tokens: &[Token], stop: Stop) -> usize
-    ensures value { result ≡ stop_place stop tokens.now }
+    ensures value { result ≡ position_or_len (λ t. is_stop stop (of_kind t.kind [])) tokens.now }
     ensures within { result ≤ length tokens.now }
 {
     let mut place = 0;

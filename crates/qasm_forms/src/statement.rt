@@ -1,8 +1,8 @@
 //! Statements, read from their lexemes.
-ghost use Rattle.std.specs.Prelude.{◌≡◌, Bool, List, ℕ, IfSome, Some};
-ghost use Rattle.qasm_forms.specs.Statements.{Statement, IsStatement, ended, written};
+ghost use Rattle.std.specs.Prelude.{◌≡◌, Bool, List, ℕ, IfSome, Some, option_map};
+ghost use Rattle.qasm_forms.specs.Statements.{Statement, IsStatement, measure, ended, written};
 ghost use Rattle.qasm_forms.specs.Cutting.{seen_bytes, begins_left};
-ghost use Rattle.qasm_forms.specs.Private.Parsing.{measure_at, paired, is_version, included_at, call_at, after_word, statement_at};
+ghost use Rattle.qasm_forms.specs.Private.Parsing.{measure_at, is_version, included_at, call_at, after_word, statement_at};
 ghost use Rattle.qasm_forms.specs.Shown.{shown, shown_if};
 
 use crate::angles::{Angles, read_angles};
@@ -30,7 +30,7 @@ pub enum Form<'a> {
 
 // The two sides of a measure.
 fn read_pair<'a>(lexemes: &mut Lexemes<'a>) -> Option<(Argument<'a>, Argument<'a>)>
-    ensures { paired result ≡ measure_at lexemes.old }
+    ensures { option_map (λ p. measure p.0 p.1) result ≡ measure_at lexemes.old }
 {
     let (mut front, found) = lexemes.cut(Stop::To);
     if !found {

@@ -159,83 +159,49 @@ unfolding parse
 opposite_factor o s v f u zero k p = absurd (omega arith)
 opposite_factor o s v f u (suc n) k p = ap (λ x. next x (λ v r. Some (o.negative v, r))) (f u n k (omega arith))
 
-times_on : {X : Type 0} (o : Algebra X) (s r : List Symbol) (v w : X) (u : List Symbol) (n : ℕ) → AtFactor o r w → NoPower u → (left : ℕ) → 8 * length (Times ∷ (r ++ u)) + 1 ≤ left
-    → parse o n term (s ++ u) ≡ parse o left (factors v) (Times ∷ (r ++ u)) → Onward o n term s (factors (o.product v w)) u
-unfolding parse
-times_on o s r v w u n f k zero p e = absurd (omega arith)
-times_on o s r v w u n f k (suc left) p e =
+-- a product or a quotient: after its symbol c a factor is read, and f joins it to what stood before
+product_on : {X : Type 0} (o : Algebra X) (c : Symbol) (f : X → X → X) → ((n : ℕ) (v : X) (t : List Symbol) → parse o (suc n) (factors v) (c ∷ t) ≡ next (parse o n factor t) (λ w t. parse o n (factors (f v w)) t))
+    → (s r : List Symbol) (v w : X) (u : List Symbol) (n : ℕ) → AtFactor o r w → NoPower u → (left : ℕ) → 8 * length (c ∷ (r ++ u)) + 1 ≤ left
+    → parse o n term (s ++ u) ≡ parse o left (factors v) (c ∷ (r ++ u)) → Onward o n term s (factors (f v w)) u
+product_on o c f step s r v w u n h k zero p e = absurd (omega arith)
+product_on o c f step s r v w u n h k (suc left) p e =
     let size = length-append r u in
-    record { left = left; enough = omega arith; goes = e ∙ ap (λ x. next x (λ w t. parse o left (factors (o.product v w)) t)) (f u left k (omega arith)) }
+    record { left = left; enough = omega arith; goes = e ∙ step left v (r ++ u) ∙ ap (λ x. next x (λ w t. parse o left (factors (f v w)) t)) (h u left k (omega arith)) }
 
-times_term : {X : Type 0} (o : Algebra X) (l r : List Symbol) (v w : X) → AtTerm o l v → AtFactor o r w → AtTerm o (l ++ (Times ∷ r)) (o.product v w)
-times_term o l r v w a f u n k p =
-    let e = append_assoc l (Times ∷ r) u in
-    let size : length ((l ++ (Times ∷ r)) ++ u) ≡ length (l ++ (Times ∷ (r ++ u))) = ap length e in
-    let on = a (Times ∷ (r ++ u)) n tt (omega arith) in
-    times_on o (l ++ (Times ∷ r)) r v w u n f k (on.left) (on.enough) (ap (λ x. parse o n term x) e ∙ on.goes)
+product_term : {X : Type 0} (o : Algebra X) (c : Symbol) (f : X → X → X) → ((n : ℕ) (v : X) (t : List Symbol) → parse o (suc n) (factors v) (c ∷ t) ≡ next (parse o n factor t) (λ w t. parse o n (factors (f v w)) t))
+    → ((t : List Symbol) → NoPower (c ∷ t)) → (l r : List Symbol) (v w : X) → AtTerm o l v → AtFactor o r w → AtTerm o (l ++ (c ∷ r)) (f v w)
+product_term o c f step no_power l r v w a h u n k p =
+    let e = append_assoc l (c ∷ r) u in
+    let size : length ((l ++ (c ∷ r)) ++ u) ≡ length (l ++ (c ∷ (r ++ u))) = ap length e in
+    let on = a (c ∷ (r ++ u)) n (no_power (r ++ u)) (omega arith) in
+    product_on o c f step (l ++ (c ∷ r)) r v w u n h k (on.left) (on.enough) (ap (λ x. parse o n term x) e ∙ on.goes)
 
-over_on : {X : Type 0} (o : Algebra X) (s r : List Symbol) (v w : X) (u : List Symbol) (n : ℕ) → AtFactor o r w → NoPower u → (left : ℕ) → 8 * length (Over ∷ (r ++ u)) + 1 ≤ left
-    → parse o n term (s ++ u) ≡ parse o left (factors v) (Over ∷ (r ++ u)) → Onward o n term s (factors (o.quotient v w)) u
-unfolding parse
-over_on o s r v w u n f k zero p e = absurd (omega arith)
-over_on o s r v w u n f k (suc left) p e =
+-- a sum or a difference: a term is read
+sum_on : {X : Type 0} (o : Algebra X) (c : Symbol) (f : X → X → X) → ((n : ℕ) (v : X) (t : List Symbol) → parse o (suc n) (terms v) (c ∷ t) ≡ next (parse o n term t) (λ w t. parse o n (terms (f v w)) t))
+    → (s r : List Symbol) (v w : X) (u : List Symbol) (n : ℕ) → AtTerm o r w → NoPower u → NoProduct u → (left : ℕ) → 8 * length (c ∷ (r ++ u)) + 1 ≤ left
+    → parse o n expr (s ++ u) ≡ parse o left (terms v) (c ∷ (r ++ u)) → Onward o n expr s (terms (f v w)) u
+sum_on o c f step s r v w u n h k g zero p e = absurd (omega arith)
+sum_on o c f step s r v w u n h k g (suc left) p e =
     let size = length-append r u in
-    record { left = left; enough = omega arith; goes = e ∙ ap (λ x. next x (λ w t. parse o left (factors (o.quotient v w)) t)) (f u left k (omega arith)) }
+    record { left = left; enough = omega arith; goes = e ∙ step left v (r ++ u) ∙ ap (λ x. next x (λ w t. parse o left (terms (f v w)) t)) (term_ends o r w h u left k g (omega arith)) }
 
-over_term : {X : Type 0} (o : Algebra X) (l r : List Symbol) (v w : X) → AtTerm o l v → AtFactor o r w → AtTerm o (l ++ (Over ∷ r)) (o.quotient v w)
-over_term o l r v w a f u n k p =
-    let e = append_assoc l (Over ∷ r) u in
-    let size : length ((l ++ (Over ∷ r)) ++ u) ≡ length (l ++ (Over ∷ (r ++ u))) = ap length e in
-    let on = a (Over ∷ (r ++ u)) n tt (omega arith) in
-    over_on o (l ++ (Over ∷ r)) r v w u n f k (on.left) (on.enough) (ap (λ x. parse o n term x) e ∙ on.goes)
+sum_expr : {X : Type 0} (o : Algebra X) (c : Symbol) (f : X → X → X) → ((n : ℕ) (v : X) (t : List Symbol) → parse o (suc n) (terms v) (c ∷ t) ≡ next (parse o n term t) (λ w t. parse o n (terms (f v w)) t))
+    → ((t : List Symbol) → NoPower (c ∷ t) × NoProduct (c ∷ t)) → (l r : List Symbol) (v w : X) → AtExpr o l v → AtTerm o r w → AtExpr o (l ++ (c ∷ r)) (f v w)
+sum_expr o c f step no_more l r v w a h u n k g p =
+    let e = append_assoc l (c ∷ r) u in
+    let size : length ((l ++ (c ∷ r)) ++ u) ≡ length (l ++ (c ∷ (r ++ u))) = ap length e in
+    let on = a (c ∷ (r ++ u)) n (no_more (r ++ u)).0 (no_more (r ++ u)).1 (omega arith) in
+    sum_on o c f step (l ++ (c ∷ r)) r v w u n h k g (on.left) (on.enough) (ap (λ x. parse o n expr x) e ∙ on.goes)
 
-plus_on : {X : Type 0} (o : Algebra X) (s r : List Symbol) (v w : X) (u : List Symbol) (n : ℕ) → AtTerm o r w → NoPower u → NoProduct u → (left : ℕ) → 8 * length (Plus ∷ (r ++ u)) + 1 ≤ left
-    → parse o n expr (s ++ u) ≡ parse o left (terms v) (Plus ∷ (r ++ u)) → Onward o n expr s (terms (o.sum v w)) u
-unfolding parse
-plus_on o s r v w u n f k g zero p e = absurd (omega arith)
-plus_on o s r v w u n f k g (suc left) p e =
-    let size = length-append r u in
-    record { left = left; enough = omega arith; goes = e ∙ ap (λ x. next x (λ w t. parse o left (terms (o.sum v w)) t)) (term_ends o r w f u left k g (omega arith)) }
-
-plus_expr : {X : Type 0} (o : Algebra X) (l r : List Symbol) (v w : X) → AtExpr o l v → AtTerm o r w → AtExpr o (l ++ (Plus ∷ r)) (o.sum v w)
-plus_expr o l r v w a f u n k g p =
-    let e = append_assoc l (Plus ∷ r) u in
-    let size : length ((l ++ (Plus ∷ r)) ++ u) ≡ length (l ++ (Plus ∷ (r ++ u))) = ap length e in
-    let on = a (Plus ∷ (r ++ u)) n tt tt (omega arith) in
-    plus_on o (l ++ (Plus ∷ r)) r v w u n f k g (on.left) (on.enough) (ap (λ x. parse o n expr x) e ∙ on.goes)
-
-minus_on : {X : Type 0} (o : Algebra X) (s r : List Symbol) (v w : X) (u : List Symbol) (n : ℕ) → AtTerm o r w → NoPower u → NoProduct u → (left : ℕ) → 8 * length (Minus ∷ (r ++ u)) + 1 ≤ left
-    → parse o n expr (s ++ u) ≡ parse o left (terms v) (Minus ∷ (r ++ u)) → Onward o n expr s (terms (o.difference v w)) u
-unfolding parse
-minus_on o s r v w u n f k g zero p e = absurd (omega arith)
-minus_on o s r v w u n f k g (suc left) p e =
-    let size = length-append r u in
-    record { left = left; enough = omega arith; goes = e ∙ ap (λ x. next x (λ w t. parse o left (terms (o.difference v w)) t)) (term_ends o r w f u left k g (omega arith)) }
-
-minus_expr : {X : Type 0} (o : Algebra X) (l r : List Symbol) (v w : X) → AtExpr o l v → AtTerm o r w → AtExpr o (l ++ (Minus ∷ r)) (o.difference v w)
-minus_expr o l r v w a f u n k g p =
-    let e = append_assoc l (Minus ∷ r) u in
-    let size : length ((l ++ (Minus ∷ r)) ++ u) ≡ length (l ++ (Minus ∷ (r ++ u))) = ap length e in
-    let on = a (Minus ∷ (r ++ u)) n tt tt (omega arith) in
-    minus_on o (l ++ (Minus ∷ r)) r v w u n f k g (on.left) (on.enough) (ap (λ x. parse o n expr x) e ∙ on.goes)
-
-group_atom : {X : Type 0} (o : Algebra X) (s : List Symbol) (v : X) → AtExpr o s v → AtAtom o (Open ∷ (s ++ (Close ∷ []))) (o.grouped v)
-unfolding parse
-group_atom o s v h u zero p = absurd (omega arith)
-group_atom o s v h u (suc n) p =
-    let e = append_assoc s (Close ∷ []) u in
-    let size : length ((s ++ (Close ∷ [])) ++ u) ≡ length (s ++ (Close ∷ u)) = ap length e in
-    ap (λ x. next (parse o n expr x) (λ v r. close (o.grouped v) r)) e
-    ∙ ap (λ x. next x (λ v r. close (o.grouped v) r)) (expr_ends o s v h (Close ∷ u) n tt tt tt (omega arith))
-
-called_atom : {X : Type 0} (o : Algebra X) (s : List Symbol) (v : X) → AtExpr o s v → AtAtom o (Function ∷ Open ∷ (s ++ (Close ∷ []))) (o.call v)
-unfolding parse
-called_atom o s v h u zero p = absurd (omega arith)
-called_atom o s v h u (suc n) p =
-    let e = append_assoc s (Close ∷ []) u in
-    let size : length ((s ++ (Close ∷ [])) ++ u) ≡ length (s ++ (Close ∷ u)) = ap length e in
-    ap (λ x. next (parse o n expr x) (λ v r. close (o.call v) r)) e
-    ∙ ap (λ x. next x (λ v r. close (o.call v) r)) (expr_ends o s v h (Close ∷ u) n tt tt tt (omega arith))
+-- an expression in parentheses, after a front of symbols
+closed_atom : {X : Type 0} (o : Algebra X) (front : List Symbol) (f : X → X) → ((n : ℕ) (t : List Symbol) → parse o (suc n) atom (front ++ t) ≡ next (parse o n expr t) (λ v r. close (f v) r))
+    → 0 < length front → (s : List Symbol) (v : X) → AtExpr o s v → AtAtom o (front ++ (s ++ (Close ∷ []))) (f v)
+closed_atom o front f step some s v h u zero p = absurd (omega arith)
+closed_atom o front f step some s v h u (suc n) p =
+    let e : (front ++ (s ++ (Close ∷ []))) ++ u ≡ front ++ (s ++ (Close ∷ u)) = append_assoc front (s ++ (Close ∷ [])) u ∙ ap (λ x. front ++ x) (append_assoc s (Close ∷ []) u) in
+    let size = ap length e in
+    let more = length-append front (s ++ (Close ∷ u)) in
+    ap (λ x. parse o (suc n) atom x) e ∙ step n (s ++ (Close ∷ u)) ∙ ap (λ x. next x (λ v r. close (f v) r)) (expr_ends o s v h (Close ∷ u) n tt tt tt (omega arith))
 
 leaf_atom : {X : Type 0} (o : Algebra X) (s : Symbol) (v : X) → ((n : ℕ) (u : List Symbol) → parse o (suc n) atom (s ∷ u) ≡ Some (v, u)) → AtAtom o (s ∷ []) v
 leaf_atom o s v h u zero p = absurd (omega arith)
@@ -249,14 +215,14 @@ unfolding parse
 ladder o (whole n) f = atom_ladder o _ _ (λ r. tt) (leaf_atom o (Whole n) (o.of_whole n) (λ n u. refl))
 ladder o real f = atom_ladder o _ _ (λ r. tt) (leaf_atom o Real (o.of_real) (λ n u. refl))
 ladder o pi f = atom_ladder o _ _ (λ r. tt) (leaf_atom o Pi (o.of_pi) (λ n u. refl))
-ladder o (plus l r) f = expr_ladder o _ _ (plus_expr o (spelling l) (spelling r) (eval o l) (eval o r) ((ladder o l f.0).as_expr) ((ladder o r f.1).as_term f.2))
-ladder o (minus l r) f = expr_ladder o _ _ (minus_expr o (spelling l) (spelling r) (eval o l) (eval o r) ((ladder o l f.0).as_expr) ((ladder o r f.1).as_term f.2))
-ladder o (times l r) f = term_ladder o _ _ (times_term o (spelling l) (spelling r) (eval o l) (eval o r) ((ladder o l f.0).as_term f.1) ((ladder o r f.2).as_factor f.3))
-ladder o (over l r) f = term_ladder o _ _ (over_term o (spelling l) (spelling r) (eval o l) (eval o r) ((ladder o l f.0).as_term f.1) ((ladder o r f.2).as_factor f.3))
+ladder o (plus l r) f = expr_ladder o _ _ (sum_expr o Plus o.sum (λ n v t. refl) (λ t. (tt, tt)) (spelling l) (spelling r) (eval o l) (eval o r) ((ladder o l f.0).as_expr) ((ladder o r f.1).as_term f.2))
+ladder o (minus l r) f = expr_ladder o _ _ (sum_expr o Minus o.difference (λ n v t. refl) (λ t. (tt, tt)) (spelling l) (spelling r) (eval o l) (eval o r) ((ladder o l f.0).as_expr) ((ladder o r f.1).as_term f.2))
+ladder o (times l r) f = term_ladder o _ _ (product_term o Times o.product (λ n v t. refl) (λ t. tt) (spelling l) (spelling r) (eval o l) (eval o r) ((ladder o l f.0).as_term f.1) ((ladder o r f.2).as_factor f.3))
+ladder o (over l r) f = term_ladder o _ _ (product_term o Over o.quotient (λ n v t. refl) (λ t. tt) (spelling l) (spelling r) (eval o l) (eval o r) ((ladder o l f.0).as_term f.1) ((ladder o r f.2).as_factor f.3))
 ladder o (opposite t) f = factor_ladder o _ _ (opposite_factor o (spelling t) (eval o t) ((ladder o t f.0).as_factor f.1))
 ladder o (raised l r) f =
     let q = f.1 in
     power_ladder o _ _ (no_minus_append (spelling l) (Caret ∷ spelling r) ((ladder o l f.0).front (omega arith)))
     (raised_power o (spelling l) (spelling r) (eval o l) (eval o r) ((ladder o l f.0).as_atom f.1) ((ladder o r f.2).as_factor f.3))
-ladder o (called t) f = atom_ladder o _ _ (λ r. tt) (called_atom o (spelling t) (eval o t) ((ladder o t f).as_expr))
-ladder o (group t) f = atom_ladder o _ _ (λ r. tt) (group_atom o (spelling t) (eval o t) ((ladder o t f).as_expr))
+ladder o (called t) f = atom_ladder o _ _ (λ r. tt) (closed_atom o (Function ∷ Open ∷ []) o.call (λ n t. refl) (omega arith) (spelling t) (eval o t) ((ladder o t f).as_expr))
+ladder o (group t) f = atom_ladder o _ _ (λ r. tt) (closed_atom o (Open ∷ []) o.grouped (λ n t. refl) (omega arith) (spelling t) (eval o t) ((ladder o t f).as_expr))

@@ -1,5 +1,5 @@
 -- The piece at the front: what the scan finds begins the bytes, and nothing longer does.
-use Rattle.std.proofs.Common.{◌≡◌, ◌∙◌, sym, ap, refl, ◌≤◌, inl, inr, ℕ, suc, ◌+◌, Bool, true, false, cond, List, [], ◌∷◌, ◌++◌, length, drop, take, Option, Some, None, arith, add-one, append_assoc, length-append, subst}
+use Rattle.std.proofs.Common.{◌≡◌, ◌∙◌, sym, ap, refl, ◌≤◌, inl, inr, ℕ, suc, ◌+◌, true, List, [], ◌∷◌, ◌++◌, length, drop, take, Option, Some, None, arith, add-one, append_assoc, length-append, subst}
 use Rattle.std.proofs.Math.Seq.{drop-append_seam}
 use Rattle.std.proofs.lemmas.List.{length-take-le, take-append-drop}
 use Rattle.qasm_lex.specs.declared.bytes.Class.{Class}
@@ -9,10 +9,9 @@ use Rattle.qasm_lex.specs.declared.token.TokenKind.TheVariants.{Word, Whole, Rea
 use Rattle.qasm_lex.specs.declared.pieces.Form.{Form}
 use Rattle.qasm_lex.specs.declared.pieces.Form.TheVariants.{Blank, Comment, Token}
 use Rattle.qasm_lex.specs.Bytes.{class_of, is_letter, is_mark, is_blank}
-use Rattle.qasm_lex.specs.Private.Scan.{is_quote, is_greater, is_equals, is_slash}
-use Rattle.qasm_lex.specs.Private.Scan.{run, number, quoted, closed, after_minus, after_equals, after_slash, piece_at, piece_of}
+use Rattle.qasm_lex.specs.Private.Scan.{front_class, run, number, quoted, closed, after_minus, after_equals, after_slash, piece_at, piece_of}
 use Rattle.qasm_lex.specs.Lexemes.{IsRun, IsPointed, IsScaled, Spells, Begins, BeginsNone}
-use Rattle.qasm_lex.proofs.Classes.{digit_is, quote_is, greater_is, equals_is, slash_is}
+use Rattle.qasm_lex.proofs.Classes.{digit_is}
 use Rattle.qasm_lex.proofs.Runs.{run_is, run_reaches, run_exact, run_within}
 use Rattle.qasm_lex.proofs.Numbers.{Sound, Reaches, reaches_same, number_digit, number_point, number_whole, number_pointed, number_scaled, room, split_at}
 
@@ -27,56 +26,50 @@ mark_sound b after e = (omega arith, (refl, e))
 blank_sound : (b : ℕ) (after : List ℕ) → is_blank (class_of b) ≡ true → Sound (b ∷ after) (Some (Blank, 1))
 blank_sound b after e = (omega arith, (b, refl, e))
 
-quoted_end : (b : ℕ) (after : List ℕ) → class_of b ≡ Quote → (c : ℕ) (rest : List ℕ) → drop (run Quoted after) after ≡ c ∷ rest → (t : Bool) → is_quote (class_of c) ≡ t
-    → Sound (b ∷ after) (cond t (Some (Token Text, run Quoted after + 2)) None)
-quoted_end b after e c rest d true q =
+quoted_end : (b : ℕ) (after : List ℕ) → class_of b ≡ Quote → (c : ℕ) (rest : List ℕ) → drop (run Quoted after) after ≡ c ∷ rest → (k : Class) → class_of c ≡ k
+    → Sound (b ∷ after) (closed (run Quoted after) k)
+quoted_end b after e c rest d Quote q =
     let n = run Quoted after in
     let within = run_within Quoted after in
     let r = room after (c ∷ rest) n within d in
-    let count : n + 2 ≡ suc (n + 1) = omega arith in (
-      omega arith,
-      rw (count, split_at after (c ∷ rest) n 1 d)
-          (b, take n after, c, refl, e, run_is Quoted after, quote_is (class_of c) q),
-    )
-quoted_end b after e c rest d false q = tt
+    let count : n + 2 ≡ suc (n + 1) = omega arith in
+    (omega arith, rw (count, split_at after (c ∷ rest) n 1 d) (b, take n after, c, refl, e, run_is Quoted after, q))
+quoted_end b after e c rest d _ q = tt
 
-quoted_step : (b : ℕ) (after : List ℕ) → class_of b ≡ Quote → (r : List ℕ) → drop (run Quoted after) after ≡ r → Sound (b ∷ after) (closed (run Quoted after) r)
+quoted_step : (b : ℕ) (after : List ℕ) → class_of b ≡ Quote → (r : List ℕ) → drop (run Quoted after) after ≡ r → Sound (b ∷ after) (closed (run Quoted after) (front_class r))
 quoted_step b after e [] d = tt
-quoted_step b after e (c ∷ rest) d = quoted_end b after e c rest d (is_quote (class_of c)) refl
+quoted_step b after e (c ∷ rest) d = quoted_end b after e c rest d (class_of c) refl
 
 quoted_sound : (b : ℕ) (after : List ℕ) → class_of b ≡ Quote → Sound (b ∷ after) (quoted after)
 unfolding quoted
 quoted_sound b after e = quoted_step b after e _ refl
 
-minus_end : (b c : ℕ) (after : List ℕ) → class_of b ≡ Minus → (t : Bool) → is_greater (class_of c) ≡ t
-    → Sound (b ∷ c ∷ after) (cond t (Some (Token Arrow, 2)) (Some (Token (Mark b), 1)))
-minus_end b c after e true q = (omega arith, (b, c, refl, e, greater_is (class_of c) q))
-minus_end b c after e false q = mark_sound b (c ∷ after) (rw e refl)
+minus_end : (b c : ℕ) (after : List ℕ) → class_of b ≡ Minus → (k : Class) → class_of c ≡ k → Sound (b ∷ c ∷ after) (after_minus k b)
+minus_end b c after e Greater q = (omega arith, (b, c, refl, e, q))
+minus_end b c after e _ q = mark_sound b (c ∷ after) (rw e refl)
 
-minus_sound : (b : ℕ) (after : List ℕ) → class_of b ≡ Minus → Sound (b ∷ after) (after_minus after b)
+minus_sound : (b : ℕ) (after : List ℕ) → class_of b ≡ Minus → Sound (b ∷ after) (after_minus (front_class after) b)
 minus_sound b [] e = mark_sound b [] (rw e refl)
-minus_sound b (c ∷ after) e = minus_end b c after e (is_greater (class_of c)) refl
+minus_sound b (c ∷ after) e = minus_end b c after e (class_of c) refl
 
-equals_end : (b c : ℕ) (after : List ℕ) → class_of b ≡ Equals → (t : Bool) → is_equals (class_of c) ≡ t
-    → Sound (b ∷ c ∷ after) (cond t (Some (Token Equal, 2)) None)
-equals_end b c after e true q = (omega arith, (b, c, refl, e, equals_is (class_of c) q))
-equals_end b c after e false q = tt
+equals_end : (b c : ℕ) (after : List ℕ) → class_of b ≡ Equals → (k : Class) → class_of c ≡ k → Sound (b ∷ c ∷ after) (after_equals k)
+equals_end b c after e Equals q = (omega arith, (b, c, refl, e, q))
+equals_end b c after e _ q = tt
 
-equals_sound : (b : ℕ) (after : List ℕ) → class_of b ≡ Equals → Sound (b ∷ after) (after_equals after)
+equals_sound : (b : ℕ) (after : List ℕ) → class_of b ≡ Equals → Sound (b ∷ after) (after_equals (front_class after))
 equals_sound b [] e = tt
-equals_sound b (c ∷ after) e = equals_end b c after e (is_equals (class_of c)) refl
+equals_sound b (c ∷ after) e = equals_end b c after e (class_of c) refl
 
-slash_end : (b c : ℕ) (after : List ℕ) → class_of b ≡ Slash → (t : Bool) → is_slash (class_of c) ≡ t
-    → Sound (b ∷ c ∷ after) (cond t (Some (Comment, run Commented after + 2)) (Some (Token (Mark b), 1)))
-slash_end b c after e true q =
+slash_end : (b c : ℕ) (after : List ℕ) → class_of b ≡ Slash → (k : Class) → class_of c ≡ k → Sound (b ∷ c ∷ after) (after_slash k (c ∷ after) b)
+slash_end b c after e Slash q =
     let within = run_within Commented after in
     let count : run Commented after + 2 ≡ suc (suc (run Commented after)) = omega arith in
-    (omega arith, rw count (b, c, take (run Commented after) after, refl, e, slash_is (class_of c) q, run_is Commented after))
-slash_end b c after e false q = mark_sound b (c ∷ after) (rw e refl)
+    (omega arith, rw count (b, c, take (run Commented after) after, refl, e, q, run_is Commented after))
+slash_end b c after e _ q = mark_sound b (c ∷ after) (rw e refl)
 
-slash_sound : (b : ℕ) (after : List ℕ) → class_of b ≡ Slash → Sound (b ∷ after) (after_slash after b)
+slash_sound : (b : ℕ) (after : List ℕ) → class_of b ≡ Slash → Sound (b ∷ after) (after_slash (front_class after) after b)
 slash_sound b [] e = mark_sound b [] (rw e refl)
-slash_sound b (c ∷ after) e = slash_end b c after e (is_slash (class_of c)) refl
+slash_sound b (c ∷ after) e = slash_end b c after e (class_of c) refl
 
 piece_sound : (b : ℕ) (after : List ℕ) (c : Class) → class_of b ≡ c → Sound (b ∷ after) (piece_at c b after)
 piece_sound b after Letter e = word_sound b after (rw e refl)
@@ -115,20 +108,18 @@ blank_reaches b u LineFeed l = inr (refl, refl)
 blank_reaches b u BlankClass l = inr (refl, refl)
 blank_reaches b u _ l = absurd (cc l)
 
-minus_choice : (b : ℕ) (t : Bool) → Reaches 1 (Token (Mark b)) (cond t (Some (Token Arrow, 2)) (Some (Token (Mark b), 1)))
-minus_choice b true = inl (omega arith)
-minus_choice b false = inr (refl, refl)
+minus_choice : (b : ℕ) (k : Class) → Reaches 1 (Token (Mark b)) (after_minus k b)
+minus_choice b Greater = inl (omega arith)
+minus_choice b _ = inr (refl, refl)
 
-slash_choice : (b n : ℕ) (t : Bool) → Reaches 1 (Token (Mark b)) (cond t (Some (Comment, n + 2)) (Some (Token (Mark b), 1)))
-slash_choice b n true = inl (omega arith)
-slash_choice b n false = inr (refl, refl)
+slash_choice : (b : ℕ) (u : List ℕ) (k : Class) → Reaches 1 (Token (Mark b)) (after_slash k u b)
+slash_choice b u Slash = inl (omega arith)
+slash_choice b u _ = inr (refl, refl)
 
 mark_reaches : (b : ℕ) (u : List ℕ) → (c : Class) → is_mark c ≡ true → Reaches 1 (Token (Mark b)) (piece_at c b u)
 mark_reaches b u Plus l = inr (refl, refl)
-mark_reaches b [] Minus l = inr (refl, refl)
-mark_reaches b (c ∷ u) Minus l = minus_choice b (is_greater (class_of c))
-mark_reaches b [] Slash l = inr (refl, refl)
-mark_reaches b (c ∷ u) Slash l = slash_choice b (run Commented u) (is_slash (class_of c))
+mark_reaches b u Minus l = minus_choice b (front_class u)
+mark_reaches b u Slash l = slash_choice b u (front_class u)
 mark_reaches b u MarkClass l = inr (refl, refl)
 mark_reaches b u _ l = absurd (cc l)
 
@@ -140,8 +131,8 @@ text_reaches : (b : ℕ) (more : List ℕ) (c : ℕ) (u : List ℕ) → class_of
 unfolding quoted
 text_reaches b more c u e h q =
     starts b (more ++ (c ∷ u)) Quote e
-    ∙ ap (λ n. closed n (drop n (more ++ (c ∷ u)))) (run_exact Quoted more (c ∷ u) h (rw q refl))
-    ∙ ap (λ r. closed (length more) r) (drop-append_seam more (c ∷ u))
+    ∙ ap (λ n. closed n (front_class (drop n (more ++ (c ∷ u))))) (run_exact Quoted more (c ∷ u) h (rw q refl))
+    ∙ ap (λ r. closed (length more) (front_class r)) (drop-append_seam more (c ∷ u))
     ∙ rw q refl
 
 pointed_front : (w : List ℕ) (p : ℕ) (r : List ℕ) → IsRun Digits w → class_of p ≡ Point → piece_of (w ++ (p ∷ r)) ≡ number (w ++ (p ∷ r))

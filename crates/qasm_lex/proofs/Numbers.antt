@@ -4,16 +4,16 @@ use Rattle.std.proofs.lemmas.List.{length-take-le}
 use Rattle.std.proofs.Math.Seq.{take-add, drop-append_seam}
 use Rattle.std.proofs.Math.Nat.{eq-or-lt_of_le}
 use Rattle.std.proofs.lemmas.Bool.{cases_eq, eqb-true, eq-eqb}
+use Rattle.qasm_lex.specs.declared.bytes.Class.{Class}
 use Rattle.qasm_lex.specs.declared.bytes.Class.TheVariants.{Digit, LetterE, Point}
 use Rattle.qasm_lex.specs.declared.bytes.Part.TheVariants.{Digits}
 use Rattle.qasm_lex.specs.declared.token.TokenKind.TheVariants.{Whole, Real}
 use Rattle.qasm_lex.specs.declared.pieces.Form.{Form}
 use Rattle.qasm_lex.specs.declared.pieces.Form.TheVariants.{Token}
 use Rattle.qasm_lex.specs.Bytes.{class_of, in_part, is_sign}
-use Rattle.qasm_lex.specs.Private.Scan.{is_e, is_point}
-use Rattle.qasm_lex.specs.Private.Scan.{run, sign, exponent, number, at_point, with_point, without_point}
+use Rattle.qasm_lex.specs.Private.Scan.{is_e, front_class, run, sign, exponent, number, at_point, with_point, without_point}
 use Rattle.qasm_lex.specs.Lexemes.{IsRun, IsSign, IsWhole, IsExponent, MayBeExponent, IsPointed, IsScaled, Spells}
-use Rattle.qasm_lex.proofs.Classes.{e_is, digit_is, point_is}
+use Rattle.qasm_lex.proofs.Classes.{e_is, digit_is}
 use Rattle.qasm_lex.proofs.Runs.{run_is, run_reaches, run_exact, run_within, run_more, Stops}
 
 -- what a scan of the bytes answers is spelled so
@@ -212,21 +212,17 @@ without_point_sound_end bs after false z d ne =
           (inr (record { whole = take whole bs; power = take (exponent after) after; spelled = refl; is_whole = whole_is bs ne; is_power = exponent_is after some })),
     )
 
-abbrev pub StartsPoint : List ℕ → Type 0
-StartsPoint [] = ⊥
-StartsPoint (b ∷ after) = is_point (class_of b) ≡ true
-
 without_point_sound : (bs after : List ℕ) → drop (run Digits bs) bs ≡ after → run Digits bs ≢ 0 → Sound bs (without_point (run Digits bs) after)
 without_point_sound bs after d ne = without_point_sound_end bs after (nat_eq (exponent after) 0) refl d ne
 
-number_sound_end : (bs : List ℕ) (b : ℕ) (after : List ℕ) → drop (run Digits bs) bs ≡ b ∷ after → (run Digits bs ≡ 0 → is_point (class_of b) ≡ true)
-    → (t : Bool) → is_point (class_of b) ≡ t → Sound bs (cond t (with_point (run Digits bs) after) (without_point (run Digits bs) (b ∷ after)))
-number_sound_end bs b after d p true e = with_point_sound bs b after d (point_is (class_of b) e)
-number_sound_end bs b after d p false e = without_point_sound bs (b ∷ after) d (λ z. let q = p z in absurd (cc))
+number_sound_end : (bs : List ℕ) (b : ℕ) (after : List ℕ) → drop (run Digits bs) bs ≡ b ∷ after → (run Digits bs ≡ 0 → class_of b ≡ Point)
+    → (k : Class) → class_of b ≡ k → Sound bs (at_point (run Digits bs) k (b ∷ after))
+number_sound_end bs b after d p Point e = with_point_sound bs b after d e
+number_sound_end bs b after d p _ e = without_point_sound bs (b ∷ after) d (λ z. let q = p z in absurd (cc))
 
-number_sound_step : (bs r : List ℕ) → drop (run Digits bs) bs ≡ r → (run Digits bs ≡ 0 → StartsPoint r) → Sound bs (at_point (run Digits bs) r)
-number_sound_step bs [] d p = without_point_sound bs [] d p
-number_sound_step bs (b ∷ after) d p = number_sound_end bs b after d p (is_point (class_of b)) refl
+number_sound_step : (bs r : List ℕ) → drop (run Digits bs) bs ≡ r → (run Digits bs ≡ 0 → front_class r ≡ Point) → Sound bs (at_point (run Digits bs) (front_class r) r)
+number_sound_step bs [] d p = without_point_sound bs [] d (λ z. let q = p z in absurd (cc))
+number_sound_step bs (b ∷ after) d p = number_sound_end bs b after d p (class_of b) refl
 
 pub number_digit : (b : ℕ) (after : List ℕ) → class_of b ≡ Digit → Sound (b ∷ after) (number (b ∷ after))
 unfolding number
@@ -260,23 +256,18 @@ without_point_whole_end m whole more h false e =
 without_point_whole : (m whole : ℕ) (after : List ℕ) → m ≤ whole → Reaches m (Token Whole) (without_point whole after)
 without_point_whole m whole after h = without_point_whole_end m whole (exponent after) h (nat_eq (exponent after) 0) refl
 
-number_whole_end : (m whole b : ℕ) (after : List ℕ) → m ≤ whole → 0 < m → (t : Bool)
-    → Reaches m (Token Whole) (cond t (with_point whole after) (without_point whole (b ∷ after)))
-number_whole_end m whole b after h p true = with_point_more m (Token Whole) whole after (omega arith) (inl (omega arith))
-number_whole_end m whole b after h p false = without_point_whole m whole (b ∷ after) h
-
-number_whole_step : (m whole : ℕ) (r : List ℕ) → m ≤ whole → 0 < m → Reaches m (Token Whole) (at_point whole r)
-number_whole_step m whole [] h p = without_point_whole m whole [] h
-number_whole_step m whole (b ∷ after) h p = number_whole_end m whole b after h p (is_point (class_of b))
+number_whole_step : (m whole : ℕ) (k : Class) (r : List ℕ) → m ≤ whole → 0 < m → Reaches m (Token Whole) (at_point whole k r)
+number_whole_step m whole Point r h p = with_point_more m (Token Whole) whole (drop 1 r) (omega arith) (inl (omega arith))
+number_whole_step m whole _ r h p = without_point_whole m whole r h
 
 pub number_whole : (d u : List ℕ) → IsWhole d → Reaches (length d) (Token Whole) (number (d ++ u))
 unfolding number
-number_whole d u w = let f = whole_reaches d u w in number_whole_step (length d) (run Digits (d ++ u)) (drop (run Digits (d ++ u)) (d ++ u)) f.0 f.1
+number_whole d u w = let f = whole_reaches d u w in number_whole_step (length d) (run Digits (d ++ u)) (front_class (drop (run Digits (d ++ u)) (d ++ u))) (drop (run Digits (d ++ u)) (d ++ u)) f.0 f.1
 
 -- a number whose run of digits ends before a rest
-number_at : (w r : List ℕ) → IsRun Digits w → Stops Digits r → number (w ++ r) ≡ at_point (length w) r
+number_at : (w r : List ℕ) → IsRun Digits w → Stops Digits r → number (w ++ r) ≡ at_point (length w) (front_class r) r
 unfolding number
-number_at w r h s = rw (run_exact Digits w r h s) (ap (λ x. at_point (length w) x) (drop-append_seam w r))
+number_at w r h s = rw (run_exact Digits w r h s) (ap (λ x. at_point (length w) (front_class x) x) (drop-append_seam w r))
 
 part_reaches : (part power u : List ℕ) → IsRun Digits part → MayBeExponent power
     → length part + length power ≤ run Digits (part ++ (power ++ u)) + exponent (drop (run Digits (part ++ (power ++ u))) (part ++ (power ++ u)))
@@ -305,7 +296,7 @@ scaled_more m whole more h p true e = let z = eqb-true more 0 e in absurd (omega
 scaled_more m whole more h p false e = reaches_same (whole + m) (whole + more) (Token Real) (omega arith)
 
 scaled_end : (m whole b : ℕ) (after : List ℕ) → class_of b ≡ LetterE → m ≤ exponent (b ∷ after) → 0 < m
-    → Reaches (whole + m) (Token Real) (at_point whole (b ∷ after))
+    → Reaches (whole + m) (Token Real) (at_point whole (class_of b) (b ∷ after))
 scaled_end m whole b after e h p = rw e (scaled_more m whole (exponent (b ∷ after)) h p (nat_eq (exponent (b ∷ after)) 0) refl)
 
 whole_run : (d : List ℕ) → IsWhole d → IsRun Digits d

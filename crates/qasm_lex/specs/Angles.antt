@@ -1,5 +1,6 @@
 -- The answer to the symbols of an angle, in three steps: its shape, its value, and the multiple of π that the value is.
 use Rattle.std.specs.Prelude.{◌≡◌, ◌≤◌, ◌<◌, List, length, Result, Ok, Err}
+use Rattle.std.specs.Result.{result_map_both}
 use Rattle.qasm_lex.specs.declared.symbol.Symbol.{Symbol}
 use Rattle.qasm_lex.specs.declared.refusal.AngleRefusal.{AngleRefusal}
 use Rattle.qasm_lex.specs.declared.refusal.AngleRefusal.TheVariants.{TooLong, Malformed}
@@ -42,5 +43,4 @@ ratio_of f = record { num = f.num; den = f.den }
 
 -- an answer by its numbers
 abbrev pub answer_of : Result PiFraction AngleRefusal → Result Ratio AngleRefusal
-answer_of (Ok f) = Ok (ratio_of f)
-answer_of (Err e) = Err e
+answer_of answer = result_map_both ratio_of (λ e. e) answer

@@ -1,11 +1,11 @@
 -- What a lexeme stands for in an expression.
+use Prim.Native.Char.{code}
 use Rattle.std.specs.Prelude.{ℕ, ◌+◌, ◌-◌, ◌*◌, ◌^◌, cond, nat_eq, nat_le, nat_lt, List, [], ◌∷◌, length, map, Option, Some, None, ℤ, pos, codes}
 use Rattle.std.specs.List.{list_any}
 use Rattle.std.specs.Str.{bytes_eq}
-use Rattle.qasm_lex.specs.Characters.{plus_sign, minus_sign, asterisk, slash, caret, opening_parenthesis, closing_parenthesis}
 use Rattle.qasm_lex.specs.declared.symbol.Symbol.{Symbol}
 use Rattle.qasm_lex.specs.declared.symbol.Symbol.TheVariants.{Whole, Real, Pi, Function, Plus, Minus, Times, Over, Caret, Open, Close, Other}
-use Rattle.qasm_lex.specs.Lexemes.{Lexeme, word, whole, real, quoted, arrow, equal, mark}
+use Rattle.qasm_lex.specs.Lexemes.{Lexeme, word, whole, real, mark}
 use Rattle.qasm_lex.specs.Fractions.{most}
 
 -- the number that decimal digits spell, the first of them the highest
@@ -32,23 +32,21 @@ word_symbol bytes = cond (bytes_eq bytes (codes "pi")) Pi (cond (list_any (bytes
 -- `+`, `-`, `*`, `/`, `^`, `(` and `)`
 unfoldable pub mark_symbol : ℕ → Symbol
 mark_symbol b =
-    cond (nat_eq b plus_sign) Plus
-    (cond (nat_eq b minus_sign) Minus
-    (cond (nat_eq b asterisk) Times
-    (cond (nat_eq b slash) Over
-    (cond (nat_eq b caret) Caret
-    (cond (nat_eq b opening_parenthesis) Open
-    (cond (nat_eq b closing_parenthesis) Close Other))))))
+    cond (nat_eq b (code "+")) Plus
+    (cond (nat_eq b (code "-")) Minus
+    (cond (nat_eq b (code "*")) Times
+    (cond (nat_eq b (code "/")) Over
+    (cond (nat_eq b (code "^")) Caret
+    (cond (nat_eq b (code "(")) Open
+    (cond (nat_eq b (code ")")) Close Other))))))
 
 -- the symbol of a lexeme
 abbrev pub symbol_of : Lexeme → Symbol
 symbol_of (word bytes) = word_symbol bytes
 symbol_of (whole digits) = Whole (narrow_number (decimal digits))
 symbol_of (real bytes) = Real
-symbol_of (quoted bytes) = Other
-symbol_of arrow = Other
-symbol_of equal = Other
 symbol_of (mark b) = mark_symbol b
+symbol_of _ = Other
 
 -- what lexemes stand for
 abbrev pub symbols : List Lexeme → List Symbol

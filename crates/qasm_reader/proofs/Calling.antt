@@ -1,39 +1,30 @@
 -- Statements carried out, by what the code has found.
-use Rattle.std.proofs.Common.{◌≡◌, ◌∙◌, sym, ap, refl, subst, ◌≤◌, ◌<◌, ℕ, ◌+◌, ◌*◌, Bool, true, false, ◌&&◌, ◌||◌, not, cond, nat_eq, nat_lt, List, [], ◌∷◌, length, Option, Some, Result, Ok, Err, IfOk, arith}
+use Rattle.std.proofs.Common.{◌≡◌, ◌∙◌, sym, ap, refl, subst, ◌≤◌, ◌<◌, ℕ, ◌+◌, ◌*◌, min, Bool, true, false, ◌&&◌, ◌||◌, not, cond, nat_eq, nat_lt, List, [], ◌∷◌, length, Option, Some, None, Result, Ok, Err, IfOk, slice_get, arith}
 use Rattle.std.specs.List.{list_any}
-use Rattle.std.proofs.lemmas.Bool.{and_parts, eqb-true, ltb-false}
+use Rattle.std.specs.Option.{option_map_or, option_to_list}
+use Rattle.std.proofs.lemmas.Bool.{and_parts, eqb-true, cond-false}
 use Rattle.std.proofs.lemmas.Bool.Decides.{nat_tests}
 use Rattle.std.proofs.lemmas.List.{length-replicate}
 use Rattle.gate_set.specs.declared.kind.Kind.{Kind}
 use Rattle.gate_set.specs.Matrix.{arity_of}
 use Rattle.gate_set.specs.Shape.{IsPlaced}
 use Rattle.gate_set.proofs.MatrixLemmas.{arity_of-few}
+use Rattle.qasm_lex.specs.Lexemes.{Lexeme}
 use Rattle.qasm_forms.specs.Statements.{Argument}
 use Rattle.qasm_reader.specs.declared.registers.Miss.{Miss}
-use Rattle.qasm_reader.specs.declared.registers.Miss.TheVariants.{Unknown, Beyond}
 use Rattle.qasm_reader.specs.declared.reason.Why.{Why}
-use Rattle.qasm_reader.specs.declared.reason.Why.TheVariants.{UnknownRegister, IndexOutOfRange, WrongCount, SizesDiffer, RepeatedQubit, Measured, TooManyGates}
-use Rattle.qasm_reader.specs.Acts.{Target, register, index_of, targets, wholes, place_count, qubit_at, qubits_at, product}
+use Rattle.qasm_reader.specs.declared.reason.Why.TheVariants.{UnknownRegister, SizesDiffer, RepeatedQubit, Measured, TooManyGates}
+use Rattle.qasm_reader.specs.Acts.{Register, Target, target, targets, wholes, place_count, qubit_at, qubits_at, product}
 use Rattle.qasm_reader.specs.Calls.{Named, gate, turn, arity, angle_count, one}
 use Rattle.qasm_reader.specs.Reasons.{is_unknown, is_beyond, miscounts}
-use Rattle.qasm_reader.specs.Private.Scope.{find, both_found, capped, differ, repeats, touches, items_of, bodies, counted, outcome_on}
-use Rattle.qasm_lex.specs.Lexemes.{Lexeme}
-use Rattle.qasm_reader.specs.Private.Tests.{Taken, angle_list, first_listed}
-use Rattle.qasm_reader.specs.Private.Drafts.{Draft, IsDraft, with_gates, bodied, counted_on, applied, applied_to, gate_on}
+use Rattle.qasm_reader.specs.Private.Scope.{Taken, found_as, find, both_found, differ, repeats, touches, items_of, bodies, counted, outcome_on}
+use Rattle.qasm_reader.specs.Private.Drafts.{Draft, IsDraft, with_gates, bodied, counted_on, applied, gate_on}
 use Rattle.qasm_reader.proofs.Facts.{passes}
-use Rattle.qasm_reader.proofs.Looking.{Finding, unknown, beyond, found, finding}
 use Rattle.qasm_reader.proofs.Placing.{qubit_below, placed_on}
 
 -- counts up to a most
-same_count : (most n a : ℕ) → a < most → nat_eq (capped most n) a ≡ nat_eq n a
-same_count most n a h = by (nat_lt n most) refl
-  where
-    differ_both : most ≤ n → nat_eq most a ≡ nat_eq n a
-    differ_both l = grind (arith, nat_tests)
-
-    by : (b : Bool) → nat_lt n most ≡ b → nat_eq (capped most n) a ≡ nat_eq n a
-    by true e = ap (λ b. nat_eq (cond b n most) a) e
-    by false e = ap (λ b. nat_eq (cond b n most) a) e ∙ differ_both (ltb-false n most e)
+same_count : (most n a : ℕ) → a < most → nat_eq (min n most) a ≡ nat_eq n a
+same_count most n a h = grind (arith, nat_tests)
 
 arity_few : (called : Named) → arity called < 4
 arity_few (gate kind) = let f = arity_of-few kind in omega arith
@@ -50,12 +41,12 @@ pub record CountsRight (called : Named) (n k : ℕ) : Type 0 where
   pub angles : k ≡ angle_count called
 
 module _ (called : Named) (n k : ℕ) where
-  counts_same : nat_eq (capped 4 n) (arity called) && nat_eq (capped 2 k) (angle_count called) ≡ nat_eq n (arity called) && nat_eq k (angle_count called)
+  counts_same : nat_eq (min n 4) (arity called) && nat_eq (min k 2) (angle_count called) ≡ nat_eq n (arity called) && nat_eq k (angle_count called)
   counts_same =
-      ap (λ b. b && nat_eq (capped 2 k) (angle_count called)) (same_count 4 n (arity called) (arity_few called))
+      ap (λ b. b && nat_eq (min k 2) (angle_count called)) (same_count 4 n (arity called) (arity_few called))
       ∙ ap (λ b. nat_eq n (arity called) && b) (same_count 2 k (angle_count called) (angles_few called))
 
-  pub counts_right : nat_eq (capped 4 n) (arity called) && nat_eq (capped 2 k) (angle_count called) ≡ true → CountsRight called n k
+  pub counts_right : nat_eq (min n 4) (arity called) && nat_eq (min k 2) (angle_count called) ≡ true → CountsRight called n k
   counts_right e =
       let p = and_parts _ _ (sym counts_same ∙ e) in
       record {
@@ -64,20 +55,28 @@ module _ (called : Named) (n k : ℕ) where
         angles = eqb-true k (angle_count called) p.1;
       }
 
-module _ (d : Draft) (called : Named) (n : ℕ) (t : Taken) (all : List Argument) where
-  abbrev after_within : Result Draft Why
-  after_within = cond (miscounts (Some called) (length all) n) (Err WrongCount) (applied_to d t (targets d.registers all))
+pub few_arguments : (called : Named) (n : ℕ) → n ≡ arity called → n ≤ 3
+few_arguments called n e = let f = arity_few called in omega arith
 
-  abbrev after_known : Result Draft Why
-  after_known = cond (list_any (is_beyond d.registers) all) (Err IndexOutOfRange) after_within
+-- what is known of a call of which nothing misses, with as many arguments and angles as its gate has
+pub record Looked (d : Draft) (called : Named) (n : ℕ) (all : List Argument) (ts : List Target) : Type 0 where
+  pub known : list_any (is_unknown d.registers true) all ≡ false
+  pub within : list_any (is_beyond d.registers) all ≡ false
+  pub counts : CountsRight called (length all) n
+  pub are : targets d.registers all ≡ Some ts
 
-  module _ (known : list_any (is_unknown d.registers true) all ≡ false) where
-    past_known : gate_on d called n t all ≡ cond (list_any (is_beyond d.registers) all) (Err IndexOutOfRange) (cond (miscounts (Some called) (length all) n) (Err WrongCount) (applied_to d t (targets d.registers all)))
-    past_known = ap (λ b. cond b (Err UnknownRegister) after_known) known
-
-    module _ (within : list_any (is_beyond d.registers) all ≡ false) where
-      pub gate_goes : miscounts (Some called) (length all) n ≡ false → (ts : List Target) → targets d.registers all ≡ Some ts → gate_on d called n t all ≡ applied d t ts
-      gate_goes e ts m = past_known ∙ ap (λ b. cond b (Err IndexOutOfRange) after_within) within ∙ ap (λ b. cond b (Err WrongCount) (applied_to d t (targets d.registers all))) e ∙ ap (applied_to d t) m
+pub looked : (d : Draft) (called : Named) (n : ℕ) (all : List Argument) (ts : List Target) (r : List (List ℕ × Register)) → r ≡ d.registers → (u b right : Bool) (count k : ℕ)
+    → u ≡ list_any (is_unknown r true) all → (u ≡ false → b ≡ list_any (is_beyond r) all) → count ≡ min (length all) 4 → (u ≡ false → b ≡ false → length all ≤ 3 → targets r all ≡ Some ts)
+    → k ≡ min n 2 → right ≡ nat_eq count (arity called) && nat_eq k (angle_count called) → u ≡ false → b ≡ false → right ≡ true → Looked d called n all ts
+looked d called n all ts r regs u b right count k unknown beyond counted means angles tested fu fb fr =
+    let counts = counts_right called (length all) n
+    (sym (tested ∙ ap (λ x. nat_eq x (arity called) && nat_eq k (angle_count called)) counted ∙ ap (λ x. nat_eq (min (length all) 4) (arity called) && nat_eq x (angle_count called)) angles) ∙ fr) in
+    record {
+      known = ap (λ r. list_any (is_unknown r true) all) (sym regs) ∙ sym unknown ∙ fu;
+      within = ap (λ r. list_any (is_beyond r) all) (sym regs) ∙ sym (beyond fu) ∙ fb;
+      counts = counts;
+      are = ap (λ r. targets r all) (sym regs) ∙ means fu fb (few_arguments called (length all) counts.arguments);
+    }
 
 -- a call on its targets
 abbrev pub finished : Draft → List Target → Result (Kind × ℕ) Why → Result Draft Why
@@ -98,9 +97,16 @@ counted_finished : (d : Draft) (ts : List Target) (body : Result (Kind × ℕ) W
 counted_finished d ts (Err w) = refl
 counted_finished d ts (Ok p) = finished_cond d ts (touches d.measured ts) Measured (cond (nat_lt 1000000 (length d.gates + p.1 * place_count ts)) (Err TooManyGates) (Ok p)) _ (finished_few d ts p)
 
-pub outcome_applied : (d : Draft) (t : Taken) (ts : List Target) (body : Result (Kind × ℕ) Why) → bodies body ≡ bodied t → finished d ts (outcome_on body ts d.measured (length d.gates)) ≡ applied d t ts
+outcome_applied : (d : Draft) (t : Taken) (ts : List Target) (body : Result (Kind × ℕ) Why) → bodies body ≡ bodied t → finished d ts (outcome_on body ts d.measured (length d.gates)) ≡ applied d t ts
 outcome_applied d t ts body e =
     finished_cond d ts (differ (wholes ts)) SizesDiffer _ _ (finished_cond d ts (repeats ts) RepeatedQubit _ _ (counted_finished d ts body ∙ ap (counted_on d ts) e))
+
+-- what comes of a call
+pub comes_to : (d : Draft) (called : Named) (n : ℕ) (t : Taken) (all : List Argument) (ts : List Target) (body : Result (Kind × ℕ) Why) → Looked d called n all ts → bodies body ≡ bodied t
+    → finished d ts (outcome_on body ts d.measured (length d.gates)) ≡ gate_on d called n t all
+comes_to d called n t all ts body l e =
+    outcome_applied d t ts body e
+    ∙ sym (cond-false _ _ _ l.known ∙ cond-false _ _ _ l.within ∙ cond-false _ _ _ l.counts.test ∙ ap (λ x. option_map_or (applied d t) x (Err UnknownRegister)) l.are)
 
 -- what passes the tests of a call
 pub record Passes (body : Result (Kind × ℕ) Why) (ts : List Target) (p : Kind × ℕ) : Type 0 where
@@ -123,37 +129,30 @@ arity_is (Ok x) p n e h = let q : x ≡ p = cc in subst (λ (y : Kind × ℕ). a
 arity_is (Err w) p n e h = absurd cc
 
 -- the gates of a call that goes on may be applied
-pub placed_call : (d : Draft) → IsDraft d → (called : Named) (all : List Argument) (ts : List Target) (body : Result (Kind × ℕ) Why) (flags : List Bool) (gates : ℕ) (p : Kind × ℕ)
-    → list_any (is_unknown d.registers true) all ≡ false → list_any (is_beyond d.registers) all ≡ false → targets d.registers all ≡ Some ts → length all ≡ arity called
-    → IfOk body (λ q. arity_of q.0 ≡ arity called) → outcome_on body ts flags gates ≡ Ok p → (place : ℕ) → place < place_count ts → IsPlaced p.0 (qubits_at ts place)
-placed_call d i called all ts body flags gates p u b m c a e place h =
+pub placed_call : (d : Draft) → IsDraft d → (called : Named) (n : ℕ) (all : List Argument) (ts : List Target) (body : Result (Kind × ℕ) Why) (flags : List Bool) (gates : ℕ) (p : Kind × ℕ)
+    → Looked d called n all ts → IfOk body (λ q. arity_of q.0 ≡ arity called) → outcome_on body ts flags gates ≡ Ok p → (place : ℕ) → place < place_count ts → IsPlaced p.0 (qubits_at ts place)
+placed_call d i called n all ts body flags gates p l a e place h =
     let s = body_passes body ts flags gates p e in
-    (placed_on d.qubits d.registers i.few_qubits i.registers_end all ts p.0 place u b m (c ∙ sym (arity_is body p (arity called) s.does a)) s.alike s.once h).placed
+    (placed_on d.qubits d.registers i.few_qubits i.registers_end all ts p.0 place l.known l.within l.are (l.counts.arguments ∙ sym (arity_is body p (arity called) s.does a)) s.alike s.once h).placed
 
--- two that are found
-both_ok : (f g : Result Target Miss) (p : Target × Target) → both_found f g ≡ Ok p → f ≡ Ok p.0
-both_ok (Ok f) (Ok g) p e = let q : (f, g) ≡ p = cc in ap (λ (x : Target × Target). Ok x.0) q
-both_ok (Ok f) (Err m) p e = absurd cc
-both_ok (Err Unknown) g p e = absurd cc
-both_ok (Err Beyond) (Ok g) p e = absurd cc
-both_ok (Err Beyond) (Err m) p e = absurd cc
+-- the first of two that are found
+pub first_found : (u b : Bool) (x : Option Target) (r : Result Target Miss) (p : Target × Target) → both_found (found_as u b x) r ≡ Ok p → (u ≡ false) × (b ≡ false) × (x ≡ Some p.0)
+first_found true b x r p e = absurd cc
+first_found false true x (Ok y) p e = absurd cc
+first_found false true x (Err m) p e = absurd cc
+first_found false false None r p e = absurd cc
+first_found false false (Some f) (Err m) p e = absurd cc
+first_found false false (Some f) (Ok t) p e = let q : (f, t) ≡ p = cc in (refl, refl, ap (λ (x : Target × Target). Some x.0) q)
 
--- a qubit of the first of them is one of the draft's
+-- a qubit of it is one of the draft's
 pub found_below : (d : Draft) → IsDraft d → (from : Argument) (other : Result Target Miss) (p : Target × Target) → both_found (find d.registers true from) other ≡ Ok p
     → (place : ℕ) → place < place_count (p.0 ∷ []) → qubit_at place p.0 < d.qubits
-found_below d i from other p e place h = by (finding (register d.registers from.name) true (index_of from.index)) (both_ok (find d.registers true from) other p e)
-  where
-    by : Finding (register d.registers from.name) true (index_of from.index) → find d.registers true from ≡ Ok p.0 → qubit_at place p.0 < d.qubits
-    by (unknown u f) q = absurd (let z : ◌≡◌ {A = Result Target Miss} (Err Unknown) (Ok p.0) = sym f ∙ q in cc)
-    by (beyond u b f) q = absurd (let z : ◌≡◌ {A = Result Target Miss} (Err Beyond) (Ok p.0) = sym f ∙ q in cc)
-    by (found x u b w f) q =
-        let same : ◌≡◌ {A = Result Target Miss} (Ok x) (Ok p.0) = sym f ∙ q in let is : x ≡ p.0 = cc in qubit_below d.qubits d.registers i.registers_end from p.0 u b (w ∙ ap Some is) place h
+found_below d i from other p e place h =
+    let f = first_found (is_unknown d.registers true from) (is_beyond d.registers from) (target d.registers from) other p e in
+    qubit_below d.qubits d.registers i.registers_end from p.0 f.0 f.1 f.2 place h
 
 -- at most one angle is the first of them
-pub one_listed : (called : Named) (angles : List (List Lexeme)) (first : Option (List Lexeme)) → first ≡ first_listed angles → length angles ≡ angle_count called → angle_list first ≡ angles
-one_listed called [] first e l = ap angle_list e
-one_listed called (a ∷ []) first e l = ap angle_list e
+pub one_listed : (called : Named) (angles : List (List Lexeme)) (first : Option (List Lexeme)) → first ≡ slice_get angles 0 → length angles ≡ angle_count called → option_to_list first ≡ angles
+one_listed called [] first e l = ap option_to_list e
+one_listed called (a ∷ []) first e l = ap option_to_list e
 one_listed called (a ∷ b ∷ more) first e l = absurd (let f = angles_few called in omega arith)
-
-pub few_arguments : (called : Named) (n : ℕ) → n ≡ arity called → n ≤ 3
-few_arguments called n e = let f = arity_few called in omega arith

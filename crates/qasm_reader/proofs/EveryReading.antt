@@ -19,9 +19,9 @@ use Rattle.qasm_reader.specs.Calls.{Named, gate_named, listed, Does}
 use Rattle.qasm_reader.specs.Parts.{Part, parts_of, Has}
 use Rattle.qasm_reader.specs.Reasons.{Refuses, IsFree, is_unknown, angles_of, called_in}
 use Rattle.qasm_reader.specs.Reading.{Accepts, AllAccepted, Reading, circuit, refusal, IsRefused, Reads, ReadsAs}
-use Rattle.qasm_reader.specs.Private.Tests.{Taken, Yields, tests, reasons, first_of}
-use Rattle.qasm_reader.proofs.Deciding.{IsGood, refuses, free}
-use Rattle.qasm_reader.proofs.Good.{some_acts, bad_refuses, version_refuses, form_refuses}
+use Rattle.qasm_reader.specs.Private.Scope.{Taken, Yields}
+use Rattle.qasm_reader.proofs.Deciding.{tests, first_of, IsGood, refuses, free}
+use Rattle.qasm_reader.proofs.Good.{some_more, bad_refuses, version_refuses, form_refuses}
 use Rattle.qasm_reader.proofs.Looking.{target_known, targets_known}
 use Rattle.qasm_forms.proofs.Nesting.{mark_is}
 use Rattle.qasm_reader.proofs.Yielding.{every_yield}
@@ -42,7 +42,7 @@ module _ (limit : ℕ) (before : List Act) (part : Part) where
     measure_does : (from to : Argument) → Has before part (measure from to) → (act : Act) × Does before (measure from to) act
     measure_does from to h =
         let u : is_unknown (registers before) true from ≡ false = false_from_ne_true _ (λ e. free UnknownRegister (measure from to, h, ap (λ x. (x || false) || (is_unknown (registers before) false to || false)) e)) in
-        let t = target_known (registers before) from u in
+        let t = target_known (registers before) true from u in
         (measures t.0, (t.0, t.1, refl))
 
     -- a statement that nothing refuses does something
@@ -59,12 +59,12 @@ module _ (limit : ℕ) (before : List Act) (part : Part) where
 
   -- a statement in its place
   good_decided : (s : Statement) → IsGood before part s → Decided
-  good_decided s g = by (first_of (tests limit before s (called_in before s) t.0) (reasons t.0)) refl
+  good_decided s g = by (first_of (tests limit before s (called_in before s) t.0)) refl
     where
       t : (t : Taken) × Yields (called_in before s) (angles_of s) t
       t = every_yield (called_in before s) (angles_of s)
 
-      by : (o : Option Why) → first_of (tests limit before s (called_in before s) t.0) (reasons t.0) ≡ o → Decided
+      by : (o : Option Why) → first_of (tests limit before s (called_in before s) t.0) ≡ o → Decided
       by (Some why) e = inr (why, refuses limit before part s t.0 t.1 g why e)
       by None e =
           let f = free limit before part s t.0 t.1 g e in
@@ -106,7 +106,7 @@ module _ (limit : ℕ) where
   -- what is no statement is refused
   none_decided : (before : List Act) (part : Part) → part.bad ≡ None → ((s : Statement) → Has before part s → ⊥) → Decided limit before part
   none_decided [] part e n = inr (NoVersion, version_refuses limit [] part e refl (n version))
-  none_decided (a ∷ before) part e n = inr (NotAStatement, form_refuses limit (a ∷ before) part e (some_acts (a ∷ before) refl) n)
+  none_decided (a ∷ before) part e n = inr (NotAStatement, form_refuses limit (a ∷ before) part e (some_more a before) n)
 
   -- a statement is in its place, or is refused
   placed_decided : (before : List Act) (part : Part) (s : Statement) → (s ≡ version) ⊎ (s ≡ version → ⊥) → part.bad ≡ None → part.lexemes ≡ written s → IsStatement (leaves before) s → Decided limit before part
@@ -118,12 +118,12 @@ module _ (limit : ℕ) where
   placed_decided (a ∷ before) part s (inl v) e w f =
       inr (
         NotAStatement,
-        form_refuses limit (a ∷ before) part e (some_acts (a ∷ before) refl)
-            (λ o g. some_acts (a ∷ before) refl (g.first (statements_same (leaves (a ∷ before)) o s g.statement f (sym g.spelled ∙ w) ∙ v))),
+        form_refuses limit (a ∷ before) part e (some_more a before)
+            (λ o g. some_more a before (g.first (statements_same (leaves (a ∷ before)) o s g.statement f (sym g.spelled ∙ w) ∙ v))),
       )
   placed_decided (a ∷ before) part s (inr n) e w f =
       let h : Has (a ∷ before) part s = record { spelled = w; statement = f; first = λ p. absurd (n p) } in
-      good_decided limit (a ∷ before) part s (record { has = h; no_bad = e; first = λ p. absurd (some_acts (a ∷ before) refl p) })
+      good_decided limit (a ∷ before) part s (record { has = h; no_bad = e; first = λ p. absurd (some_more a before p) })
 
   -- each part is accepted or refused
   decided : (before : List Act) (part : Part) → Decided limit before part

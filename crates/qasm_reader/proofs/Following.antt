@@ -1,5 +1,6 @@
 -- A statement that is carried out does what it means, or is refused for its first reason.
 use Rattle.std.proofs.Common.{◌≡◌, ◌≢◌, ◌∙◌, sym, ap, refl, subst, ◌≤◌, ◌<◌, ℕ, ◌+◌, ◌*◌, Bool, true, false, not, nat_eq, List, [], ◌∷◌, ◌++◌, length, All, Option, Some, None, Result, Ok, Err, IfSome}
+use Rattle.std.specs.Option.{option_map_or}
 use mathlib.Core.Bool.{beq}
 use Rattle.std.proofs.lemmas.Bool.{true_from_ne_false, eqb-true, ltb-false, not-false, or_parts}
 use Rattle.std.proofs.lemmas.Option.{same_Some}
@@ -12,18 +13,17 @@ use Rattle.qasm_forms.proofs.Exact.{statements_same}
 use Rattle.qasm_reader.specs.declared.registers.Miss.{Miss}
 use Rattle.qasm_reader.specs.declared.reason.Why.{Why}
 use Rattle.qasm_reader.specs.declared.reason.Why.TheVariants.{UnknownRegister, Redeclared, IndexOutOfRange, WrongCount, SizesDiffer, RepeatedQubit, Measured, TooManyQubits, TooManyGates}
-use Rattle.qasm_reader.specs.Acts.{Act, Target, Item, nothing, declares, measures, applies, register, registers, index_of, target, targets, wholes, place_count, qubits_of, product, measured}
+use Rattle.qasm_reader.specs.Acts.{Act, Target, Item, nothing, declares, measures, applies, registers, target, targets, wholes, place_count, qubits_of, product, measured}
 use Rattle.qasm_reader.specs.Profile.{leaves}
 use Rattle.qasm_reader.specs.Calls.{Named, builtin, arity, angle_count, listed, Does}
 use Rattle.qasm_reader.specs.Parts.{Part, Has}
 use Rattle.qasm_reader.specs.Reasons.{Refuses, is_unknown, is_beyond, angles_of, called_in}
-use Rattle.qasm_reader.specs.Private.Scope.{find, both_found, why_missed, differ, repeats}
-use Rattle.qasm_reader.specs.Private.Tests.{Taken, Yields, other_count, tests, reasons, first_of}
-use Rattle.qasm_reader.specs.Private.Drafts.{Draft, Follows, Concludes, outcome, measured_on, with_qubits, with_bits, with_measured, with_gates, bodied, counted_on, applied, applied_to, call_on, step, is_version, is_first, no_form, ended_part}
-use Rattle.qasm_reader.proofs.Good.{no_acts, some_acts, version_refuses, form_refuses}
-use Rattle.qasm_reader.proofs.Deciding.{IsGood, refuses, free}
+use Rattle.qasm_reader.specs.Private.Scope.{Taken, Yields, find, differ, repeats, other_count}
+use Rattle.qasm_reader.specs.Private.Drafts.{Draft, Follows, Concludes, outcome, measured_on, with_qubits, with_bits, with_measured, with_gates, bodied, counted_on, applied, call_on, step, is_version, no_form, ended_part}
+use Rattle.qasm_reader.proofs.Good.{is_first, no_acts, some_acts, version_refuses, form_refuses}
+use Rattle.qasm_reader.proofs.Deciding.{tests, first_of, IsGood, refuses, free}
 use Rattle.qasm_reader.proofs.Growing.{follows_nothing, follows_qubits, follows_bits, follows_measures, follows_applies}
-use Rattle.qasm_reader.proofs.Looking.{Finding, unknown, beyond, found, finding}
+use Rattle.qasm_reader.proofs.Calling.{first_found}
 use Rattle.qasm_reader.proofs.Placing.{qubit_below, call_on_qubits}
 use Rattle.qasm_reader.proofs.Reasoning.{why_of, told}
 use Rattle.qasm_reader.proofs.Facts.{passes}
@@ -31,24 +31,10 @@ use Rattle.qasm_reader.proofs.Facts.{passes}
 same_ok : {A B : Type 0} (a b : A) → ◌≡◌ {A = Result A B} (Ok a) (Ok b) → a ≡ b
 same_ok a b e = cc
 
--- two that are found
-record BothFound (d : Draft) (from to : Argument) (e : Draft) : Type 0 where
-  side : Target
-  other : Target
-  known : is_unknown d.registers true from ≡ false
-  within : is_beyond d.registers from ≡ false
-  is : target d.registers from ≡ Some side
-  after : with_measured d (qubits_of side) ≡ e
-
-both_sides : (d : Draft) (from to : Argument) (e : Draft) → Finding (register d.registers from.name) true (index_of from.index) → (r : Result Target Miss) → measured_on d (both_found (find d.registers true from) r) ≡ Ok e
-    → BothFound d from to e
-both_sides d from to e (unknown u f) r h = absurd (let q : Err UnknownRegister ≡ Ok e = sym (ap (λ x. measured_on d (both_found x r)) f) ∙ h in cc)
-both_sides d from to e (beyond u b f) (Ok y) h = absurd (let q : Err IndexOutOfRange ≡ Ok e = sym (ap (λ x. measured_on d (both_found x (Ok y))) f) ∙ h in cc)
-both_sides d from to e (beyond u b f) (Err m) h = absurd (let q : Err (why_missed m) ≡ Ok e = sym (ap (λ x. measured_on d (both_found x (Err m))) f) ∙ h in cc)
-both_sides d from to e (found x u b w f) (Err m) h = absurd (let q : Err (why_missed m) ≡ Ok e = sym (ap (λ x. measured_on d (both_found x (Err m))) f) ∙ h in cc)
-both_sides d from to e (found x u b w f) (Ok y) h =
-    let p = passes (other_count x y) SizesDiffer (Ok (with_measured d (qubits_of x))) e (sym (ap (λ z. measured_on d (both_found z (Ok y))) f) ∙ h) in
-    record { side = x; other = y; known = u; within = b; is = w; after = same_ok _ e p.1 }
+-- a measure that passes its tests
+measured_ok : (d : Draft) (r : Result (Target × Target) Miss) (e : Draft) → measured_on d r ≡ Ok e → (p : Target × Target) × (r ≡ Ok p) × (with_measured d (qubits_of p.0) ≡ e)
+measured_ok d (Err m) e h = absurd cc
+measured_ok d (Ok p) e h = (p, refl, same_ok _ e (passes (other_count p.0 p.1) SizesDiffer _ e h).1)
 
 -- a call that passes its tests
 record Applied (d : Draft) (t : Taken) (ts : List Target) (e : Draft) : Type 0 where
@@ -70,7 +56,7 @@ counted d (Ok (Some items)) ts e a o h =
 applied_ok : (d : Draft) (t : Taken) (ts : List Target) (e : Draft) → applied d t ts ≡ Ok e → Applied d t ts e
 applied_ok d t ts e h = let p = passes _ SizesDiffer _ e h in let q = passes _ RepeatedQubit _ e p.1 in counted d t ts e p.0 q.0 q.1
 
-applied_some : (d : Draft) (t : Taken) (x : Option (List Target)) (e : Draft) → applied_to d t x ≡ Ok e → (ts : List Target) × (x ≡ Some ts) × Applied d t ts e
+applied_some : (d : Draft) (t : Taken) (x : Option (List Target)) (e : Draft) → option_map_or (applied d t) x (Err UnknownRegister) ≡ Ok e → (ts : List Target) × (x ≡ Some ts) × Applied d t ts e
 applied_some d t None e h = absurd cc
 applied_some d t (Some ts) e h = (ts, refl, applied_ok d t ts e h)
 
@@ -109,10 +95,12 @@ module _ (limit : ℕ) (few : limit ≤ 64) (before : List Act) (d : Draft) (f :
 
   measure_done : (from to : Argument) (t : Taken) (e : Draft) → step limit d (measure from to) t ≡ Ok e → Done (measure from to) e
   measure_done from to t e h =
-      let b = both_sides d from to e (finding (register d.registers from.name) true (index_of from.index)) (find d.registers false to) h in (
-        measures b.side,
-        (b.side, ap (λ r. target r from) (sym their_registers) ∙ b.is, refl),
-        subst (Follows limit (before ++ measures b.side ∷ [])) b.after (follows_measures limit before d f b.side (qubit_below d.qubits d.registers f.fits.registers_end from b.side b.known b.within b.is)),
+      let m = measured_ok d _ e h in
+      let side = (m.0).0 in
+      let k = first_found (is_unknown d.registers true from) (is_beyond d.registers from) (target d.registers from) (find d.registers false to) m.0 m.1 in (
+        measures side,
+        (side, ap (λ r. target r from) (sym their_registers) ∙ k.2, refl),
+        subst (Follows limit (before ++ measures side ∷ [])) m.2 (follows_measures limit before d f side (qubit_below d.qubits d.registers f.fits.registers_end from side k.0 k.1 k.2)),
       )
 
   call_done : (name : List ℕ) (angles : Option (List (List Lexeme))) (all : List Argument) (t : Taken) (e : Draft) → Yields (builtin name) (listed angles) t
@@ -154,7 +142,7 @@ module _ (limit : ℕ) (few : limit ≤ 64) (before : List Act) (d : Draft) (f :
   done (call name angles all) t e y h = call_done name angles all t e y (builtin name) refl h
   done (left_out name more) t e y h = absurd cc
 
-  tells : (s : Statement) (t : Taken) → Yields (called_in before s) (angles_of s) t → why_of (step limit d s t) ≡ first_of (tests limit before s (called_in before s) t) (reasons t)
+  tells : (s : Statement) (t : Taken) → Yields (called_in before s) (angles_of s) t → why_of (step limit d s t) ≡ first_of (tests limit before s (called_in before s) t)
   tells s t y =
       let few_qubits = subst (λ x. x.qubits ≤ limit) f.is f.few in
       let few_gates = subst (λ x. length x.gates ≤ 1000000) f.is f.fits.few_gates in

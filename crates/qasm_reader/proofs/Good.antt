@@ -1,5 +1,6 @@
 -- The reasons before the form of a statement is known.
-use Rattle.std.proofs.Common.{◌≡◌, ◌≢◌, ◌∙◌, sym, ap, refl, ◌<◌, ◌⊎◌, inl, inr, ℕ, true, false, List, [], Some, None, arith}
+use Rattle.std.proofs.Common.{◌≡◌, ◌≢◌, ◌∙◌, sym, ap, refl, ◌<◌, ◌⊎◌, inl, inr, ℕ, Bool, true, false, nat_eq, List, [], ◌∷◌, length, Some, None, arith}
+use Rattle.std.proofs.lemmas.Bool.Decides.{nat_tests}
 use Rattle.std.proofs.lemmas.Option.{none-some, same_Some}
 use Rattle.qasm_reader.specs.declared.reason.Why.{Why}
 use Rattle.qasm_reader.specs.declared.reason.Why.TheVariants.{BadByte, NoVersion, NotAStatement}
@@ -9,20 +10,25 @@ use Rattle.qasm_reader.specs.Profile.{leaves}
 use Rattle.qasm_reader.specs.Acts.{Act}
 use Rattle.qasm_reader.specs.Parts.{Part, Has}
 use Rattle.qasm_reader.specs.Reasons.{Holds, Refuses, order}
-use Rattle.qasm_reader.specs.Private.Drafts.{is_first}
 
 -- a part is at most one statement
 pub has_one : (before : List Act) (part : Part) (s t : Statement) → Has before part s → Has before part t → s ≡ t
 has_one before part s t a b = statements_same (leaves before) s t a.statement b.statement (sym a.spelled ∙ b.spelled)
 
--- whether something was done before
+-- whether nothing was done before
+abbrev pub is_first : List Act → Bool
+is_first before = nat_eq (length before) 0
+
 pub no_acts : (before : List Act) → true ≡ is_first before → before ≡ []
 no_acts [] e = refl
-no_acts _ e = absurd cc
+no_acts (a ∷ before) e = absurd (grind (arith, nat_tests))
+
+pub some_more : (a : Act) (before : List Act) → a ∷ before ≢ []
+some_more a before h = cc
 
 pub some_acts : (before : List Act) → false ≡ is_first before → before ≢ []
-some_acts [] e h = cc
-some_acts _ e h = cc
+some_acts [] e = absurd cc
+some_acts (a ∷ before) e = some_more a before
 
 -- a bad place comes first
 pub bad_refuses : (limit : ℕ) (before : List Act) (part : Part) (place : ℕ) → part.bad ≡ Some place → Refuses limit before part (BadByte place)

@@ -13,7 +13,7 @@ use Rattle.qasm_reader.specs.Calls.{gate_named, Calls, Does}
 use Rattle.qasm_reader.specs.Parts.{Part, parts_of}
 use Rattle.qasm_reader.specs.Reasons.{Holds, Refuses, IsFree}
 use Rattle.qasm_reader.specs.Reading.{Accepts, AllAccepted, Reading, circuit, refusal, IsRefused, Reads, ReadsAs, IfRefused, Says}
-use Rattle.qasm_reader.specs.Private.Tests.{Taken}
+use Rattle.qasm_reader.specs.Private.Scope.{Taken}
 use Rattle.qasm_reader.proofs.Facts.{same_first, same_rest}
 use Rattle.qasm_reader.proofs.Good.{has_one, one_refusal}
 use Rattle.qasm_reader.proofs.Yielding.{yields_one}

@@ -11,15 +11,20 @@ use Rattle.qasm_lex.specs.Lexemes.{Lexeme, word}
 use Rattle.qasm_forms.specs.Statements.{Statement, version, is_mark, first_word, written_rest, written}
 use Rattle.qasm_forms.specs.declared.lexemes.Stop.TheVariants.{Semicolon}
 use Rattle.qasm_forms.specs.Cutting.{is_nothing, is_stop, has_stop, before_stop, after_stop}
-use Rattle.qasm_reader.specs.Acts.{Act, circuit_of}
+use Rattle.qasm_reader.specs.Acts.{Act}
 use Rattle.qasm_reader.specs.Parts.{Part, last_part, cut, parts_of}
 use Rattle.qasm_reader.specs.Reasons.{Refuses}
 use Rattle.qasm_reader.specs.Reading.{Accepts, AllAccepted, circuit, refusal, IsRefused, Reads, IfRefused}
 use Rattle.qasm_reader.proofs.PartCuts.{parts_cut, ended_stops}
-use Rattle.qasm_reader.specs.Private.Drafts.{Draft, Follows, Concludes, Reached, circuit_in, ended_part, draft_of, is_first, no_form}
-use Rattle.qasm_reader.proofs.Good.{no_acts, some_acts, bad_refuses, version_refuses, form_refuses}
+use Rattle.qasm_reader.specs.Private.Drafts.{Draft, Follows, Concludes, Reached, ended_part, draft_of, no_form}
+use Rattle.qasm_reader.proofs.Good.{is_first, no_acts, some_acts, bad_refuses, version_refuses, form_refuses}
 use Rattle.qasm_reader.proofs.Growing.{follows_none}
 use Rattle.std.proofs.lemmas.List.{append-nil}
+use Rattle.gate_set.specs.Circuits.{Circuit}
+
+-- the circuit of a draft
+abbrev circuit_in : Draft → Circuit
+circuit_in d = record { qubits = d.qubits; gates = d.gates; measured = d.measured }
 
 accepted_more : (limit : ℕ) (before : List Act) (good : List Part) (acts : List Act) (p : Part) (a : Act)
     → AllAccepted limit before good acts → Accepts limit (before ++ acts) p a → AllAccepted limit before (good ++ p ∷ []) (acts ++ a ∷ [])
@@ -69,16 +74,13 @@ module _ (limit : ℕ) (all : List Part) (d : Draft) (number : ℕ) where
     count = r.count;
   }
 
-  circuit_is : (acts : List Act) → d ≡ draft_of acts → circuit_in d ≡ circuit_of acts
-  circuit_is acts e = ap circuit_in e
-
   -- nothing is left
   pub reached_end : all ≢ [] → Reached limit all [] d number → Reads limit all (circuit (circuit_in d))
   reached_end some r = by all some (r.split ∙ append-nil r.good)
     where
       by : (ps : List Part) → ps ≢ [] → ps ≡ r.good → Reads limit ps (circuit (circuit_in d))
       by [] n e = absurd (n refl)
-      by (p ∷ ps) n e = (r.acts, subst (λ qs. AllAccepted limit [] qs r.acts) (sym e) r.accepted, circuit_is r.acts r.follows.is)
+      by (p ∷ ps) n e = (r.acts, subst (λ qs. AllAccepted limit [] qs r.acts) (sym e) r.accepted, ap circuit_in r.follows.is)
 
 -- a refusal of the statements is that of the text
 pub refused_reads : (limit : ℕ) (all : List Part) (number : ℕ) (why : Why) → IsRefused limit all number why → Reads limit all (refusal number why)

@@ -1,6 +1,6 @@
 -- Arguments that pass all tests are different qubits of the draft.
-use Rattle.std.proofs.Common.{◌≡◌, ◌∙◌, sym, ap, refl, subst, ◌≤◌, ◌<◌, ℕ, ◌+◌, ◌-◌, Bool, true, false, not, cond, nat_eq, nat_le, List, [], ◌∷◌, length, map, replicate, All, Option, Some, None, arith}
-use Rattle.std.specs.List.{list_any, AllByRecursion}
+use Rattle.std.proofs.Common.{◌≡◌, ◌∙◌, sym, ap, refl, subst, ◌≤◌, ◌<◌, ℕ, ◌+◌, ◌-◌, Bool, true, false, not, cond, nat_eq, nat_le, List, [], ◌∷◌, length, map, replicate, All, get_or, Option, Some, None, option_map, arith}
+use Rattle.std.specs.List.{list_any, AllByRecursion, cons_option}
 use Rattle.std.specs.Str.{bytes_eq}
 use Rattle.std.specs.Map.{lookup}
 use Rattle.std.proofs.lemmas.Bool.{leb-false, not-false, or_parts, false_from_ne_true}
@@ -13,7 +13,7 @@ use Rattle.gate_set.specs.Matrix.{arity_of}
 use Rattle.gate_set.specs.Shape.{IsOn}
 use Rattle.qasm_lex.specs.Fractions.{Ratio}
 use Rattle.qasm_forms.specs.Statements.{Argument}
-use Rattle.qasm_reader.specs.Acts.{Register, Target, Item, register, index_of, place_in, target_in, target, targets, with_size, wholes, first_or_one, place_count, qubit_at, qubits_at, up_to, placed}
+use Rattle.qasm_reader.specs.Acts.{Register, Target, Item, register, index_of, place_in, target, targets, wholes, place_count, qubit_at, qubits_at, up_to, placed}
 use Rattle.qasm_reader.specs.Calls.{Named, gate, turn, table, builtin, arity, one, turns, Gives, plain, turned}
 use Rattle.qasm_reader.specs.Reasons.{same_sort, is_unknown, reaches, is_beyond}
 use Rattle.qasm_reader.specs.Private.Scope.{differ, has_twice, repeats}
@@ -21,7 +21,7 @@ use Rattle.qasm_reader.specs.Private.Drafts.{Draft, IsDraft, EndsWithin}
 use Rattle.qasm_reader.proofs.Places.{any_there}
 use Rattle.qasm_reader.proofs.Applied.{placed_all}
 use Rattle.qasm_reader.proofs.Deciding.{different, same_places}
-use Rattle.qasm_reader.proofs.Looking.{with_first_some, length_targets}
+use Rattle.qasm_reader.proofs.Looking.{with_first, length_targets}
 
 -- what holds of each value of a table holds of the one that is found
 found_holds : {K X : Type 0} (P : X → Type 0) (test : K → Bool) (es : List (K × X)) (x : X) → AllByRecursion (λ e. P e.1) es → lookup test es ≡ Some x → P x
@@ -37,7 +37,7 @@ IsInside : Option ℕ → ℕ → Type 0
 IsInside None place = Unit {0}
 IsInside (Some size) place = place < size
 
-inside_single : (size : Option ℕ) (place : ℕ) → place < first_or_one (with_size size []) → IsInside size place
+inside_single : (size : Option ℕ) (place : ℕ) → place < get_or (cons_option size []) 0 1 → IsInside size place
 unfolding IsInside
 inside_single None place h = tt
 inside_single (Some n) place h = h
@@ -53,9 +53,9 @@ module _ (n : ℕ) (all : List (List ℕ × Register)) (ends : AllByRecursion (E
   target_below a t place u b e h = by (register all a.name) refl
     where
       by : (x : Option Register) → register all a.name ≡ x → qubit_at place t < n
-      by None q = absurd (none-some t (sym (ap (λ x. target_in x (index_of a.index)) q) ∙ e))
+      by None q = absurd (none-some t (sym (ap (option_map (λ r. place_in r (index_of a.index))) q) ∙ e))
       by (Some r) q =
-          let same : place_in r (index_of a.index) ≡ t = same_Some (place_in r (index_of a.index)) t (sym (ap (λ x. target_in x (index_of a.index)) q) ∙ e) in
+          let same : place_in r (index_of a.index) ≡ t = same_Some (place_in r (index_of a.index)) t (sym (ap (option_map (λ r. place_in r (index_of a.index))) q) ∙ e) in
           let quantum : r.quantum ≡ true = not-false _ (sym (ap (λ x. not (same_sort true x)) q) ∙ u) in
           let end : r.first + r.size ≤ n = found_holds (λ (r : Register). r.quantum ≡ true → r.first + r.size ≤ n) (bytes_eq a.name) all r ends q quantum in
           subst (λ x. qubit_at place x < n) same
@@ -65,7 +65,7 @@ module _ (n : ℕ) (all : List (List ℕ × Register)) (ends : AllByRecursion (E
   qubit_below a t u b e place h = target_below a t place u b e (inside_single t.size place h)
 
   module _ (places place : ℕ) (inside : place < places) where
-    first_inside : (size : Option ℕ) (sizes : List ℕ) → AllByRecursion (λ m. m ≡ places) (with_size size sizes) → IsInside size place × AllByRecursion (λ m. m ≡ places) sizes
+    first_inside : (size : Option ℕ) (sizes : List ℕ) → AllByRecursion (λ m. m ≡ places) (cons_option size sizes) → IsInside size place × AllByRecursion (λ m. m ≡ places) sizes
     unfolding IsInside
     first_inside None sizes a = (tt, a)
     first_inside (Some m) sizes a = (let e = a.0 in omega arith, a.1)
@@ -77,7 +77,7 @@ module _ (n : ℕ) (all : List (List ℕ × Register)) (ends : AllByRecursion (E
     all_below (a ∷ more) ts u b e w =
         let p = or_parts (is_unknown all true a) (list_any (is_unknown all true) more) u in
         let q = or_parts (is_beyond all a) (list_any (is_beyond all) more) b in
-        let f = with_first_some (target all a) (targets all more) ts e in
+        let f = with_first (target all a) (targets all more) ts e in
         let i = first_inside (f.0).size (wholes f.1) (subst (λ x. AllByRecursion (λ m. m ≡ places) (wholes x)) (sym f.4) w) in
         subst (λ x. All (λ q. q < n) (qubits_at x place)) f.4
         (All-cons (λ q. q < n) (qubit_at place f.0) (qubits_at f.1 place) (target_below a f.0 place p.0 q.0 f.2 i.0) (all_below more f.1 p.1 q.1 f.3 i.1))

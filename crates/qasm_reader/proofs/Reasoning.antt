@@ -1,22 +1,21 @@
 -- What stops a statement when it is carried out is the first of its tests that holds.
-use Rattle.std.proofs.Common.{◌≡◌, ◌∙◌, sym, ap, refl, subst, ◌≤◌, ◌<◌, ℕ, ◌+◌, ◌*◌, Bool, true, false, ◌||◌, not, cond, nat_lt, List, [], ◌∷◌, ◌++◌, length, All, Option, Some, None, is_some, Result, Ok, Err, arith}
+use Rattle.std.proofs.Common.{◌≡◌, ◌∙◌, sym, ap, refl, subst, ◌≤◌, ◌<◌, ℕ, ◌+◌, ◌*◌, Bool, true, false, ◌||◌, not, cond, nat_lt, List, [], ◌∷◌, ◌++◌, length, All, Option, Some, None, option_map, is_some, Result, Ok, Err, is_err, arith}
+use Rattle.std.specs.Option.{option_map_or}
 use Rattle.std.specs.List.{list_any}
 use Rattle.std.proofs.lemmas.List.{length-append}
 use Rattle.qasm_lex.specs.Lexemes.{Lexeme}
 use Rattle.qasm_lex.specs.Symbols.{decimal}
 use Rattle.qasm_forms.specs.Statements.{Statement, version, include, qubits, bits, barrier, measure, call, left_out, Argument}
-use Rattle.qasm_reader.specs.declared.registers.Miss.{Miss}
-use Rattle.qasm_reader.specs.declared.registers.Miss.TheVariants.{Unknown, Beyond}
 use Rattle.qasm_reader.specs.declared.reason.Why.{Why}
 use Rattle.qasm_reader.specs.declared.reason.Why.TheVariants.{OutOfProfile, UnknownName, Redeclared, UnknownRegister, IndexOutOfRange, WrongCount, SizesDiffer, RepeatedQubit, AngleRefused, OffGrid, Measured, TooManyQubits, TooManyGates}
-use Rattle.qasm_reader.specs.Acts.{Act, nothing, declares, measures, applies, Target, Item, register, registers, index_of, measured, qubit_count, qubits_in, gates, gates_in, product, target, targets, wholes, place_count, qubits_at, qubits_of, up_to, is_among}
+use Rattle.qasm_reader.specs.Acts.{Act, nothing, declares, measures, applies, Target, Item, registers, measured, qubit_count, qubits_in, gates, gates_in, product, target, targets, wholes, place_count, qubits_at, qubits_of, up_to, is_among}
 use Rattle.qasm_reader.specs.Calls.{Named, builtin, listed}
 use Rattle.qasm_reader.specs.Reasons.{is_unknown, is_beyond, no_size, miscounts, angles_of, called_in}
-use Rattle.qasm_reader.specs.Private.Scope.{find, both_found, touches, repeats, differ, has_twice}
-use Rattle.qasm_reader.specs.Private.Tests.{Taken, Yields, is_refused, is_off, refusal_of, if_all, if_two, other_count, act_on, measure_act, exceeds, tests, reasons, first_of}
-use Rattle.qasm_reader.specs.Private.Drafts.{Draft, draft_of, with_measured, measured_on, applied, applied_to, call_on, step}
+use Rattle.qasm_reader.specs.Private.Scope.{Taken, Yields, found_as, both_found, touches, repeats, differ, has_twice, other_count}
+use Rattle.qasm_reader.proofs.Deciding.{is_off, refusal_of, if_all, if_two, act_on, exceeds, tests, first_of}
+use Rattle.qasm_reader.specs.Private.Drafts.{Draft, draft_of, with_measured, measured_on, applied, call_on, step}
 use Rattle.qasm_reader.proofs.Growing.{qubit_count_more, gates_more, length_product, flagged_is}
-use Rattle.qasm_reader.proofs.Looking.{Finding, unknown, beyond, found, finding, targets_known}
+use Rattle.qasm_reader.proofs.Looking.{has_target, targets_known}
 use Rattle.qasm_reader.proofs.Yielding.{quiet}
 use Rattle.std.proofs.Math.Bool.{or-false}
 use Rattle.std.proofs.lemmas.Bool.{le-ltb}
@@ -65,7 +64,7 @@ module _ (limit : ℕ) (before : List Act) (few : qubit_count before ≤ limit) 
 
   -- what is told of a statement without angles
   abbrev Is : Statement → Taken → Type 0
-  Is s t = why_of (step limit (draft_of before) s t) ≡ first_of (tests limit before s (called_in before s) t) (reasons t)
+  Is s t = why_of (step limit (draft_of before) s t) ≡ first_of (tests limit before s (called_in before s) t)
 
   told_include : (text : List ℕ) → Is (include text) (Ok None)
   told_include text = why_cond _ OutOfProfile _ _ (at_last nothing refl refl)
@@ -89,63 +88,31 @@ module _ (limit : ℕ) (before : List Act) (few : qubit_count before ≤ limit) 
       ∙ cond_is _ _ UnknownRegister _ _ (sym (or-false (list_any (is_unknown (registers before) true) all))) refl
 
   -- the two sides of a measure, by what is found of them
-  module _ (from to : Argument) where
-    abbrev after_known : Option Target → Option Target → Option Why
-    after_known x y =
-        cond (if_two x y other_count) (Some SizesDiffer)
-        (cond (exceeds limit (measure_act x) (λ act. qubit_count (before ++ act ∷ []))) (Some TooManyQubits)
-        (cond (exceeds 1000000 (measure_act x) (λ act. length (gates (before ++ act ∷ [])))) (Some TooManyGates) None))
+  abbrev after_known : Option Target → Option Target → Option Why
+  after_known x y =
+      cond (if_two x y other_count) (Some SizesDiffer)
+      (cond (exceeds limit (option_map measures x) (λ act. qubit_count (before ++ act ∷ []))) (Some TooManyQubits)
+      (cond (exceeds 1000000 (option_map measures x) (λ act. length (gates (before ++ act ∷ [])))) (Some TooManyGates) None))
 
-    abbrev told_as : Bool → Bool → Bool → Bool → Option Target → Option Target → Option Why
-    told_as u v b c x y = cond ((u || false) || (v || false)) (Some UnknownRegister) (cond ((b || false) || (c || false)) (Some IndexOutOfRange) (after_known x y))
+  abbrev told_as : Bool → Bool → Bool → Bool → Option Target → Option Target → Option Why
+  told_as u v b c x y = cond ((u || false) || (v || false)) (Some UnknownRegister) (cond ((b || false) || (c || false)) (Some IndexOutOfRange) (after_known x y))
 
-    -- the same by what each side is
-    same_told : (f g F G : Result Target Miss) (u v b c U V B C : Bool) (x y X Y : Option Target) → f ≡ F → g ≡ G → u ≡ U → v ≡ V → b ≡ B → c ≡ C → x ≡ X → y ≡ Y
-        → why_of (measured_on (draft_of before) (both_found F G)) ≡ told_as U V B C X Y → why_of (measured_on (draft_of before) (both_found f g)) ≡ told_as u v b c x y
-    same_told f g F G u v b c U V B C x y X Y ef eg eu ev eb ec ex ey h =
-        ap (λ r. why_of (measured_on (draft_of before) (both_found r g))) ef ∙ ap (λ r. why_of (measured_on (draft_of before) (both_found F r))) eg ∙ h
-        ∙ sym (ap (λ z. told_as z v b c x y) eu ∙ ap (λ z. told_as U z b c x y) ev ∙ ap (λ z. told_as U V z c x y) eb ∙ ap (λ z. told_as U V B z x y) ec
-        ∙ ap (λ z. told_as U V B C z y) ex ∙ ap (told_as U V B C X) ey)
+  sides : (u v b c : Bool) (x y : Option Target) → (u ≡ false → is_some x ≡ true) → (v ≡ false → is_some y ≡ true)
+      → why_of (measured_on (draft_of before) (both_found (found_as u b x) (found_as v c y))) ≡ told_as u v b c x y
+  sides true v b c x y k l = refl
+  sides false v b c None y k l = absurd (let q : false ≡ true = k refl in cc)
+  sides false true true c (Some f) y k l = refl
+  sides false true false c (Some f) y k l = refl
+  sides false false b c (Some f) None k l = absurd (let q : false ≡ true = l refl in cc)
+  sides false false true true (Some f) (Some t) k l = refl
+  sides false false true false (Some f) (Some t) k l = refl
+  sides false false false true (Some f) (Some t) k l = refl
+  sides false false false false (Some f) (Some t) k l = why_cond (other_count f t) SizesDiffer (Ok (with_measured (draft_of before) (qubits_of f))) _ (at_last (measures f) refl refl)
 
-    abbrev u1 : Bool
-    u1 = is_unknown (registers before) true from
-
-    abbrev v1 : Bool
-    v1 = is_unknown (registers before) false to
-
-    abbrev b1 : Bool
-    b1 = is_beyond (registers before) from
-
-    abbrev c1 : Bool
-    c1 = is_beyond (registers before) to
-
-    abbrev x1 : Option Target
-    x1 = target (registers before) from
-
-    abbrev y1 : Option Target
-    y1 = target (registers before) to
-
-    sides : Finding (register (registers before) from.name) true (index_of from.index) → Finding (register (registers before) to.name) false (index_of to.index)
-        → why_of (measured_on (draft_of before) (both_found (find (registers before) true from) (find (registers before) false to)))
-        ≡ told_as (is_unknown (registers before) true from) (is_unknown (registers before) false to) (is_beyond (registers before) from) (is_beyond (registers before) to)
-        (target (registers before) from) (target (registers before) to)
-    sides (unknown u e) y =
-        same_told (find (registers before) true from) (find (registers before) false to) (Err Unknown) (find (registers before) false to) u1 v1 b1 c1 true v1 b1 c1 x1 y1 x1 y1 e refl u refl refl refl refl refl refl
-    sides (beyond u b e) (unknown v f) =
-        same_told (find (registers before) true from) (find (registers before) false to) (Err Beyond) (Err Unknown) u1 v1 b1 c1 false true b1 c1 x1 y1 x1 y1 e f u v refl refl refl refl refl
-    sides (beyond u b e) (beyond v c f) =
-        same_told (find (registers before) true from) (find (registers before) false to) (Err Beyond) (Err Beyond) u1 v1 b1 c1 false false true c1 x1 y1 x1 y1 e f u v b refl refl refl refl
-    sides (beyond u b e) (found y v c g f) =
-        same_told (find (registers before) true from) (find (registers before) false to) (Err Beyond) (Ok y) u1 v1 b1 c1 false false true c1 x1 y1 x1 y1 e f u v b refl refl refl refl
-    sides (found x u b w e) (unknown v f) =
-        same_told (find (registers before) true from) (find (registers before) false to) (Ok x) (Err Unknown) u1 v1 b1 c1 false true b1 c1 x1 y1 x1 y1 e f u v refl refl refl refl refl
-    sides (found x u b w e) (beyond v c f) =
-        same_told (find (registers before) true from) (find (registers before) false to) (Ok x) (Err Beyond) u1 v1 b1 c1 false false false true x1 y1 x1 y1 e f u v b c refl refl refl
-    sides (found x u b w e) (found y v c g f) =
-        same_told (find (registers before) true from) (find (registers before) false to) (Ok x) (Ok y) u1 v1 b1 c1 false false false false x1 y1 (Some x) (Some y) e f u v b c w g (why_cond (other_count x y) SizesDiffer (Ok (with_measured (draft_of before) (qubits_of x))) _ (at_last (measures x) refl refl))
-
-    told_measure : Is (measure from to) (Ok None)
-    told_measure = sides (finding (register (registers before) from.name) true (index_of from.index)) (finding (register (registers before) to.name) false (index_of to.index))
+  told_measure : (from to : Argument) → Is (measure from to) (Ok None)
+  told_measure from to =
+      sides (is_unknown (registers before) true from) (is_unknown (registers before) false to) (is_beyond (registers before) from) (is_beyond (registers before) to)
+      (target (registers before) from) (target (registers before) to) (has_target (registers before) true from) (has_target (registers before) false to)
 
   -- a call has a measured qubit
   touched : (ts : List Target) → touches (draft_of before).measured ts ≡ list_any (λ place. list_any (is_among (measured before)) (qubits_at ts place)) (up_to (place_count ts))
@@ -157,7 +124,7 @@ module _ (limit : ℕ) (before : List Act) (few : qubit_count before ≤ limit) 
   after_counts named t x =
       cond (if_all x (λ ts. differ (wholes ts))) (Some SizesDiffer)
       (cond (if_all x (λ ts. list_any (λ place. has_twice (qubits_at ts place)) (up_to (place_count ts)))) (Some RepeatedQubit)
-      (cond (is_refused t) (Some (refusal_of t))
+      (cond (is_err t) (Some (refusal_of t))
       (cond (is_off named t) (Some OffGrid)
       (cond (if_all x (λ ts. list_any (λ place. list_any (is_among (measured before)) (qubits_at ts place)) (up_to (place_count ts)))) (Some Measured)
       (cond (exceeds limit (act_on t x) (λ act. qubit_count (before ++ act ∷ []))) (Some TooManyQubits)
@@ -185,7 +152,7 @@ module _ (limit : ℕ) (before : List Act) (few : qubit_count before ≤ limit) 
     told_named (Some called) =
         why_past _ UnknownRegister _ _ (λ u. why_cond _ IndexOutOfRange _ _ (why_cond _ WrongCount _ _
         (let ts = targets_known (registers before) all u in
-        ap (λ x. why_of (applied_to (draft_of before) t x)) ts.1 ∙ told_applied called t ts.0 ∙ sym (ap (after_counts (Some called) t) ts.1)))
+        ap (λ x. why_of (option_map_or (applied (draft_of before) t) x (Err UnknownRegister))) ts.1 ∙ told_applied called t ts.0 ∙ sym (ap (after_counts (Some called) t) ts.1)))
         ∙ cond_is _ _ IndexOutOfRange _ _ (sym (or-false (list_any (is_beyond (registers before)) all))) refl)
         ∙ cond_is _ _ UnknownRegister _ _ (sym (or-false (list_any (is_unknown (registers before) true) all))) refl
 

@@ -9,7 +9,7 @@ use Rattle.qasm_reader.specs.Acts.{Act}
 use Rattle.qasm_reader.specs.Parts.{Part, parts_of, Has}
 use Rattle.qasm_reader.specs.Reasons.{IsFree, angles_of, called_in}
 use Rattle.qasm_reader.specs.Reading.{Accepts, AllAccepted, Reads, ReadsAs, circuit}
-use Rattle.qasm_reader.specs.Private.Tests.{Taken, Yields}
+use Rattle.qasm_reader.specs.Private.Scope.{Taken, Yields}
 use Rattle.qasm_reader.specs.Private.Drafts.{Draft, Follows, draft_of, step}
 use Rattle.qasm_reader.proofs.Good.{has_one}
 use Rattle.qasm_reader.proofs.Deciding.{IsGood}

@@ -16,7 +16,7 @@ use Rattle.qasm_reader.specs.Acts.{Item}
 use Rattle.qasm_reader.specs.Calls.{Named, gate, turn, angle_count, one, turns, Gives, plain, turned, AreValues}
 use Rattle.qasm_reader.specs.Reasons.{FirstRefused}
 use Rattle.qasm_reader.specs.declared.reason.Why.TheVariants.{AngleRefused, OffGrid}
-use Rattle.qasm_reader.specs.Private.Tests.{Taken, Yields}
+use Rattle.qasm_reader.specs.Private.Scope.{Taken, Yields}
 use Rattle.qasm_reader.specs.Private.Drafts.{bodied}
 use Rattle.qasm_reader.proofs.Facts.{same_first, same_rest}
 

@@ -1,5 +1,5 @@
 -- What statements do, one after the other: registers, qubits, gates, measured qubits.
-use Rattle.std.specs.Prelude.{ℕ, zero, suc, ◌+◌, Bool, true, false, nat_eq, List, [], ◌∷◌, ◌++◌, map, flat_map, get_or, Option, Some, None}
+use Rattle.std.specs.Prelude.{ℕ, zero, suc, ◌+◌, Bool, true, false, nat_eq, List, [], ◌∷◌, ◌++◌, map, flat_map, filter_map, get_or, Option, Some, None, option_map, option_and_then}
 use Rattle.std.specs.List.{list_any}
 use Rattle.std.specs.Str.{bytes_eq}
 use Rattle.std.specs.Map.{lookup}
@@ -60,48 +60,29 @@ abbrev pub register : List (List ℕ × Register) → List ℕ → Option Regist
 register all name = lookup (bytes_eq name) all
 
 abbrev pub index_of : Option (List ℕ) → Option ℕ
-index_of None = None
-index_of (Some digits) = Some (decimal digits)
+index_of digits = option_map decimal digits
 
 -- the place of an index in a register, or all its places
 abbrev pub place_in : Register → Option ℕ → Target
 place_in r None = record { first = r.first; size = Some r.size }
 place_in r (Some i) = record { first = r.first + i; size = None }
 
-abbrev pub target_in : Option Register → Option ℕ → Option Target
-target_in None index = None
-target_in (Some r) index = Some (place_in r index)
-
 -- what an argument means, where its register is declared
 abbrev pub target : List (List ℕ × Register) → Argument → Option Target
-target all a = target_in (register all a.name) (index_of a.index)
-
-abbrev pub with_first : Option Target → Option (List Target) → Option (List Target)
-with_first None ts = None
-with_first (Some t) None = None
-with_first (Some t) (Some ts) = Some (t ∷ ts)
+target all a = option_map (λ r. place_in r (index_of a.index)) (register all a.name)
 
 -- what arguments mean, where all their registers are declared
 abbrev pub targets : List (List ℕ × Register) → List Argument → Option (List Target)
 targets all [] = Some []
-targets all (a ∷ more) = with_first (target all a) (targets all more)
-
-abbrev pub with_size : Option ℕ → List ℕ → List ℕ
-with_size None sizes = sizes
-with_size (Some n) sizes = n ∷ sizes
+targets all (a ∷ more) = option_and_then (λ t. option_map (λ ts. t ∷ ts) (targets all more)) (target all a)
 
 -- the sizes of those that are whole registers
 abbrev pub wholes : List Target → List ℕ
-wholes [] = []
-wholes (t ∷ ts) = with_size t.size (wholes ts)
-
-abbrev pub first_or_one : List ℕ → ℕ
-first_or_one [] = 1
-first_or_one (n ∷ ns) = n
+wholes ts = filter_map (λ t. t.size) ts
 
 -- how many places the arguments of a call have together: those of the whole registers, else one
 abbrev pub place_count : List Target → ℕ
-place_count ts = first_or_one (wholes ts)
+place_count ts = get_or (wholes ts) 0 1
 
 abbrev pub qubit_from : ℕ → Option ℕ → ℕ → ℕ
 qubit_from first None place = first

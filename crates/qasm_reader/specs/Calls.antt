@@ -1,7 +1,8 @@
 -- The gates that have names, and what their calls do.
-use Rattle.std.specs.Prelude.{◌≡◌, ℕ, ◌-◌, true, false, cond, nat_eq, nat_le, List, [], ◌∷◌, replicate, Option, Some, None, Ok, codes}
+use Rattle.std.specs.Prelude.{◌≡◌, ℕ, ◌-◌, true, false, cond, nat_eq, nat_le, List, [], ◌∷◌, replicate, Option, Some, Ok, unwrap_or, codes}
 use Rattle.std.specs.Str.{bytes_eq}
 use Rattle.std.specs.Map.{lookup}
+use Rattle.std.specs.List.{AllZip}
 use Rattle.gate_set.specs.declared.kind.Kind.{Kind}
 use Rattle.gate_set.specs.declared.kind.Kind.TheVariants.{Id, X, Y, Z, H, S, Sdg, T, Tdg, RxP, RxM, RyP, RyM, Cx, Cz, Swap, Ccx, Cswap}
 use Rattle.gate_set.specs.Matrix.{arity_of}
@@ -59,14 +60,10 @@ pub data Gives (named : Named) (values : List Ratio) (items : List Item) : Type 
 
 -- angles have these values
 abbrev pub AreValues : List (List Lexeme) → List Ratio → Type 0
-AreValues [] [] = Unit {0}
-AreValues [] (f ∷ values) = ⊥
-AreValues (a ∷ angles) [] = ⊥
-AreValues (a ∷ angles) (f ∷ values) = IsAnswer (symbols a) (Ok f) × AreValues angles values
+AreValues angles values = AllZip (λ a f. IsAnswer (symbols a) (Ok f)) angles values
 
 abbrev pub listed : Option (List (List Lexeme)) → List (List Lexeme)
-listed None = []
-listed (Some angles) = angles
+listed angles = unwrap_or angles []
 
 -- what a call of a gate does
 pub record Calls (before : List Act) (name : List ℕ) (angles : List (List Lexeme)) (arguments : List Argument) (act : Act) : Type 0 where

@@ -1,6 +1,6 @@
 -- The statements of a text as lists of lexemes.
+use Prim.Native.Char.{code}
 use Rattle.std.specs.Prelude.{◌≡◌, ℕ, Bool, cond, List, [], ◌∷◌, ◌++◌, Option, None}
-use Rattle.qasm_lex.specs.Characters.{semicolon}
 use Rattle.qasm_lex.specs.Lexemes.{Lexeme}
 use Rattle.qasm_forms.specs.Statements.{is_mark, Statement, version, written, IsStatement}
 use Rattle.qasm_reader.specs.Acts.{Act}
@@ -13,7 +13,7 @@ pub record Part : Type 0 where
 
 -- the lexeme ends the statement whose lexemes so far stand before it
 abbrev pub is_end : List Lexeme → Lexeme → Bool
-is_end before l = is_mark semicolon l
+is_end before l = is_mark (code ";") l
 
 abbrev pub last_part : List Lexeme → Option ℕ → List Part
 last_part [] None = []

@@ -1,5 +1,4 @@
 -- Words that only the clauses of private functions and lemmas cite: a user of the crate may skip this folder.
 pub mod Seen
 pub mod Scope
-pub mod Tests
 pub mod Drafts

@@ -1,8 +1,8 @@
 //! The gates that have names.
-ghost use Rattle.std.specs.Prelude.{◌≡◌, ◌<◌, ◌&&◌, nat_eq};
+ghost use Rattle.std.specs.Prelude.{◌≡◌, ◌<◌, ◌&&◌, nat_eq, option_map};
 ghost use Rattle.gate_set.specs.Matrix.{arity_of};
 ghost use Rattle.qasm_reader.specs.Calls.{builtin, arity, angle_count, turns};
-ghost use Rattle.qasm_reader.specs.Private.Seen.{seen_named, seen_name};
+ghost use Rattle.qasm_reader.specs.Private.Seen.{seen_named};
 ghost use Rattle.qasm_reader.specs.Private.Scope.{items_of};
 
 use gate_set::Kind;
@@ -46,7 +46,7 @@ impl Builtin {
 /// The gate of a name.
 #[tactic(auto, unfolding(crate::specs::Calls::builtin))]
 pub fn gate_named(name: &[u8]) -> Option<Builtin>
-    ensures { seen_name result ≡ builtin name.now }
+    ensures { option_map seen_named result ≡ builtin name.now }
 {
     match name {
         b"id" => Some(Builtin::Gate(Kind::Id)),

@@ -1,5 +1,6 @@
 //! Calls of gates: why they are refused, and what they do.
-ghost use Rattle.std.specs.Prelude.{◌≡◌, ◌+◌, ◌*◌, ◌≤◌, true, false, length, ℕ, List, Some, IfOk};
+ghost use Rattle.std.specs.Prelude.{◌≡◌, ◌+◌, ◌*◌, ◌≤◌, true, false, min, length, ℕ, List, Some, IfOk, slice_get};
+ghost use Rattle.std.specs.Option.{option_to_list};
 ghost use Rattle.std.specs.List.{list_any};
 ghost use Rattle.qasm_lex.specs.Lexemes.{Lexeme};
 ghost use Rattle.qasm_reader.specs.Acts.{targets};
@@ -7,8 +8,7 @@ ghost use Rattle.gate_set.specs.Matrix.{arity_of};
 ghost use Rattle.qasm_reader.specs.Calls.{turn, builtin, arity, angle_count, listed};
 ghost use Rattle.qasm_reader.specs.Reasons.{is_unknown, is_beyond};
 ghost use Rattle.qasm_reader.specs.Private.Seen.{seen_targets, seen_named, seen_find};
-ghost use Rattle.qasm_reader.specs.Private.Scope.{seen_found, nothing_found, noted, look, capped, bodies, outcome_on};
-ghost use Rattle.qasm_reader.specs.Private.Tests.{Taken, Yields, angle_list, first_listed};
+ghost use Rattle.qasm_reader.specs.Private.Scope.{Taken, Yields, seen_found, noted, bodies, outcome_on};
 ghost use Rattle.qasm_reader.specs.Private.Drafts.{bodied};
 
 use crate::builtin::{Builtin, turns};
@@ -61,7 +61,7 @@ impl Found {
 pub fn look_up(registers: &Registers<'_>, arguments: Arguments<'_>) -> Found
     ensures unknown { result.unknown ≡ list_any (is_unknown registers.now true) arguments.entry }
     ensures beyond { result.unknown ≡ false → result.beyond ≡ list_any (is_beyond registers.now) arguments.entry }
-    ensures count { result.count ≡ capped 4 (length arguments.entry) }
+    ensures count { result.count ≡ min (length arguments.entry) 4 }
     ensures means { result.unknown ≡ false → result.beyond ≡ false → length arguments.entry ≤ 3 → targets registers.now arguments.entry ≡ Some (seen_targets result.targets.items) }
 {
     let mut rest = arguments.ahead();
@@ -79,8 +79,8 @@ pub fn look_up(registers: &Registers<'_>, arguments: Arguments<'_>) -> Found
 
 /// The first angle of a call, and how many there are, counted up to 2.
 pub fn first_angle(angles: Option<Angles<'_>>) -> (Option<Lexemes<'_>>, u8)
-    ensures first { result.0 ≡ first_listed (listed angles.entry) }
-    ensures count { result.1 ≡ capped 2 (length (listed angles.entry)) }
+    ensures first { result.0 ≡ slice_get (listed angles.entry) 0 }
+    ensures count { result.1 ≡ min (length (listed angles.entry)) 2 }
 {
     let Some(mut rest) = angles else {
         return (None, 0);
@@ -97,7 +97,7 @@ pub fn first_angle(angles: Option<Angles<'_>>) -> (Option<Lexemes<'_>>, u8)
 
 // How the turns by an angle are done.
 fn turned(forth: Kind, back: Kind, angle: &Lexemes<'_>) -> Result<(Kind, u8), Why>
-    ensures yields { (t : Taken) → Yields (Some (turn forth back)) (angle_list (Some angle.now)) t → bodies result ≡ bodied t }
+    ensures yields { (t : Taken) → Yields (Some (turn forth back)) (option_to_list (Some angle.now)) t → bodies result ≡ bodied t }
     ensures arity { arity_of forth ≡ 1 → arity_of back ≡ 1 → IfOk result (λ p. arity_of p.0 ≡ 1) }
 {
     match angle.fraction() {
@@ -112,7 +112,7 @@ fn turned(forth: Kind, back: Kind, angle: &Lexemes<'_>) -> Result<(Kind, u8), Wh
 /// How often a gate of which kind is done at each place, by the angle of the call where the gate has one.
 pub fn body_of(gate: Builtin, angle: Option<Lexemes<'_>>) -> Result<(Kind, u8), Why>
     ensures arity { (name : List ℕ) → builtin name ≡ Some (seen_named gate) → IfOk result (λ p. arity_of p.0 ≡ arity (seen_named gate)) }
-    ensures yields { (t : Taken) → Yields (Some (seen_named gate)) (angle_list angle.entry) t → length (angle_list angle.entry) ≡ angle_count (seen_named gate) → bodies result ≡ bodied t }
+    ensures yields { (t : Taken) → Yields (Some (seen_named gate)) (option_to_list angle.entry) t → length (option_to_list angle.entry) ≡ angle_count (seen_named gate) → bodies result ≡ bodied t }
 {
     match gate {
         Builtin::Gate(kind) => Ok((kind, 1)),

@@ -1,14 +1,14 @@
 //! The circuit of the statements so far with its registers, and statements carried out on it.
-ghost use Rattle.std.specs.Prelude.{◌≡◌, ◌≤◌, ◌<◌, ◌++◌, ◌∷◌, [], ℕ, List, length, replicate, false, IfOk, OnOk};
+ghost use Rattle.std.specs.Prelude.{◌≡◌, ◌≤◌, ◌<◌, ◌++◌, ◌∷◌, [], ℕ, List, length, replicate, false, cond, Some, None, IfOk, OnOk};
 ghost use Rattle.gate_set.specs.Circuits.{IsCircuit};
 ghost use Rattle.qasm_lex.specs.Symbols.{decimal, number_below};
 ghost use Rattle.qasm_forms.specs.Shown.{shown};
 ghost use Rattle.qasm_reader.specs.Acts.{place_count, qubit_at, qubits_of};
 ghost use Rattle.qasm_reader.specs.Calls.{builtin, listed};
-ghost use Rattle.qasm_reader.specs.Reasons.{no_size, angles_of, called_in};
+ghost use Rattle.qasm_reader.specs.Reasons.{is_declared, no_size, angles_of, called_in};
+ghost use Rattle.qasm_reader.specs.declared.reason.Why.TheVariants.{Redeclared};
 ghost use Rattle.qasm_reader.specs.Private.Seen.{seen_target, seen_named, seen_find, seen_both};
-ghost use Rattle.qasm_reader.specs.Private.Scope.{both_found};
-ghost use Rattle.qasm_reader.specs.Private.Tests.{Taken, Yields};
+ghost use Rattle.qasm_reader.specs.Private.Scope.{Taken, Yields, both_found};
 ghost use Rattle.qasm_reader.specs.Private.Drafts.{
   Draft as Shown,
   IsDraft,
@@ -23,9 +23,6 @@ ghost use Rattle.qasm_reader.specs.Private.Drafts.{
   gate_on,
   call_on,
   step,
-  size_of,
-  circuit_in,
-  or_redeclared,
 };
 
 use crate::apply::apply;
@@ -64,7 +61,7 @@ impl<'a> Model for Draft<'a> {
 
 // The size of a register, where it is one.
 fn size_of(digits: &[u8]) -> Option<u32>
-    ensures { result ≡ size_of (decimal digits.now) }
+    ensures { result ≡ cond (no_size (decimal digits.now)) None (Some (decimal digits.now)) }
 {
     let size = number_below(digits, PAST_SIZES)? as u32;
     if size == 0 { None } else { Some(size) }
@@ -144,7 +141,7 @@ impl<'a> Draft<'a> {
     /// The circuit.
     pub fn circuit(self) -> Circuit
         requires { IsDraft self }
-        ensures circuit { result ≡ circuit_in self.entry }
+        ensures circuit { result ≡ record { qubits = self.entry.qubits; gates = self.entry.gates; measured = self.entry.measured } }
         ensures sound { IsCircuit result }
     {
         Circuit {
@@ -156,7 +153,7 @@ impl<'a> Draft<'a> {
 
     // That the name is declared, or this reason.
     fn unless_declared(&self, name: &[u8], why: Why) -> Why
-        ensures { result ≡ or_redeclared self.now.registers name.now why }
+        ensures { result ≡ cond (is_declared self.now.registers name.now) Redeclared why }
     {
         match self.registers.get(name) {
             Some(_) => Why::Redeclared,

@@ -1,5 +1,5 @@
 //! Circuits read from texts.
-ghost use Rattle.std.specs.Prelude.{◌≡◌, ◌≢◌, ◌≤◌, ℕ, List, [], false, length, IfOk, IfErr};
+ghost use Rattle.std.specs.Prelude.{◌≡◌, ◌≢◌, ◌≤◌, ℕ, List, [], false, nat_eq, length, IfOk, IfErr};
 ghost use Rattle.std.specs.List.{list_any};
 ghost use Rattle.std.specs.Str.{bytes_eq};
 ghost use Rattle.gate_set.specs.Circuits.{IsCircuit};
@@ -11,7 +11,7 @@ ghost use Rattle.qasm_reader.specs.Profile.{leaves, words_left_out};
 ghost use Rattle.qasm_reader.specs.Parts.{Part, last_part, parts_of};
 ghost use Rattle.qasm_reader.specs.Reading.{Reading, ReadsAs, Reads, IfRefused, Says, circuit, refusal};
 ghost use Rattle.qasm_reader.specs.declared.reason.ReadStop.TheVariants.{Refused};
-ghost use Rattle.qasm_reader.specs.Private.Drafts.{IsDraft, Follows, Concludes, Reached, ended_part, is_first, is_version, no_form};
+ghost use Rattle.qasm_reader.specs.Private.Drafts.{IsDraft, Follows, Concludes, Reached, ended_part, is_version, no_form};
 
 use crate::draft::Draft;
 use crate::hashing::KeyedNames;
@@ -156,7 +156,7 @@ fn follow<'a>(
 ) -> Result<Option<Why>, OutOfMemory>
     requires draft { IsDraft draft.old }
     requires few { limit ≤ 64 }
-    ensures { IfOk result (λ why. (before : List Act) → Follows limit before draft.old → first ≡ is_first before → Concludes limit before (ended_part part.old) why draft.new) }
+    ensures { IfOk result (λ why. (before : List Act) → Follows limit before draft.old → first ≡ nat_eq (length before) 0 → Concludes limit before (ended_part part.old) why draft.new) }
 {
     let left = begins_left(part);
     let Some(form) = read_statement(part, left) else {

@@ -1,15 +1,12 @@
 -- Reading from the front of lexemes.
-use Rattle.std.specs.Prelude.{ℕ, ◌+◌, ◌-◌, Bool, true, false, ◌&&◌, ◌||◌, cond, nat_eq, List, [], ◌∷◌, Option, Some, None}
+use Prim.Native.Char.{code}
+use Rattle.std.specs.Prelude.{ℕ, ◌+◌, ◌-◌, Bool, true, false, ◌&&◌, ◌||◌, cond, nat_eq, List, [], ◌∷◌, Option, Some, None, option_map, option_and_then}
 use Rattle.std.specs.Borrow.{Bor}
 use Rattle.qasm_lex.specs.declared.token.Token.{Token}
-use Rattle.qasm_lex.specs.declared.token.TokenKind.{TokenKind}
 use Rattle.qasm_forms.specs.declared.lexemes.Lexeme.{Lexeme as Piece}
 use Rattle.qasm_forms.specs.declared.lexemes.Lexeme.TheVariants.{Word as PieceWord, Whole as PieceWhole, Real as PieceReal, Quoted as PieceQuoted, Arrow as PieceArrow, Equal as PieceEqual, Mark as PieceMark}
-use Rattle.qasm_forms.specs.declared.lexemes.Stop.{Stop}
-use Rattle.qasm_lex.specs.Characters.{comma, opening_parenthesis, closing_parenthesis, opening_bracket, closing_bracket}
 use Rattle.qasm_lex.specs.Lexemes.{Lexeme, of_kind, word, whole, real, quoted, arrow, equal, mark}
 use Rattle.qasm_forms.specs.Statements.{is_mark, is_name}
-use Rattle.qasm_forms.specs.Cutting.{is_stop}
 
 -- the code's lexeme, as the definitions have it
 abbrev pub seen : Piece → Lexeme
@@ -23,20 +20,17 @@ seen (PieceMark b) = mark b
 
 -- what was read, and what is left
 abbrev pub then : {A : Type 0} → Option A → List Lexeme → Option (A × List Lexeme)
-then None rest = None
-then (Some x) rest = Some (x, rest)
+then read rest = option_map (λ x. (x, rest)) read
 
 abbrev pub then_bytes : Option (Bor (List ℕ)) → List Lexeme → Option (List ℕ × List Lexeme)
-then_bytes None rest = None
-then_bytes (Some x) rest = Some (x.now, rest)
+then_bytes read rest = option_map (λ x. (x.now, rest)) read
 
 abbrev pub marked : Bool → List Lexeme → Option (List Lexeme)
 marked true rest = Some rest
 marked false rest = None
 
 abbrev pub and_then : {A B : Type 0} → Option A → (A → Option B) → Option B
-and_then None f = None
-and_then (Some x) f = f x
+and_then read f = option_and_then f read
 
 -- a word that is a name
 abbrev pub name_at : List Lexeme → Option (List ℕ × List Lexeme)
@@ -60,42 +54,31 @@ at_end x (l ∷ ls) = None
 
 -- `[`, a number and `]`, and nothing more
 abbrev pub index_at : List Lexeme → Option (List ℕ)
-index_at ls = and_then (mark_at opening_bracket ls) (λ r. and_then (digits_at r) (λ d. and_then (mark_at closing_bracket d.1) (at_end d.0)))
-
-abbrev pub ends_kind : Stop → TokenKind → Bool
-ends_kind stop kind = is_stop stop (of_kind kind [])
-
--- how many tokens stand before the first separator
-abbrev pub stop_place : Stop → List Token → ℕ
-stop_place stop [] = 0
-stop_place stop (t ∷ ts) = cond (ends_kind stop t.kind) 0 (1 + stop_place stop ts)
+index_at ls = and_then (mark_at (code "[") ls) (λ r. and_then (digits_at r) (λ d. and_then (mark_at (code "]") d.1) (at_end d.0)))
 
 -- a comma or a closing parenthesis outside of parentheses, where so many are open
 abbrev pub ends_angle : ℕ → Lexeme → Bool
-ends_angle depth l = nat_eq depth 0 && (is_mark closing_parenthesis l || is_mark comma l)
+ends_angle depth l = nat_eq depth 0 && (is_mark (code ")") l || is_mark (code ",") l)
 
 abbrev pub deeper : ℕ → Lexeme → ℕ
-deeper depth l = cond (is_mark opening_parenthesis l) (depth + 1) (cond (is_mark closing_parenthesis l) (depth - 1) depth)
+deeper depth l = cond (is_mark (code "(") l) (depth + 1) (cond (is_mark (code ")") l) (depth - 1) depth)
 
 abbrev pub plus : ℕ → Option (ℕ × Bool) → Option (ℕ × Bool)
-plus n None = None
-plus n (Some p) = Some (n + p.0, p.1)
+plus n place = option_map (λ p. (n + p.0, p.1)) place
 
 -- how many tokens stand before the end of an angle, and whether it is the closing parenthesis
 abbrev pub angle_place : ℕ → List Token → Option (ℕ × Bool)
 angle_place depth [] = None
 angle_place depth (t ∷ ts) =
-    cond (ends_angle depth (of_kind t.kind [])) (Some (0, is_mark closing_parenthesis (of_kind t.kind []))) (plus 1 (angle_place (deeper depth (of_kind t.kind [])) ts))
+    cond (ends_angle depth (of_kind t.kind [])) (Some (0, is_mark (code ")") (of_kind t.kind []))) (plus 1 (angle_place (deeper depth (of_kind t.kind [])) ts))
 
 abbrev pub led_by : Lexeme → Option (List Lexeme × Bool × List Lexeme) → Option (List Lexeme × Bool × List Lexeme)
-led_by l None = None
-led_by l (Some p) = Some (l ∷ p.0, p.1, p.2)
+led_by l read = option_map (λ p. (l ∷ p.0, p.1, p.2)) read
 
 -- the lexemes before the end of an angle, whether it is the closing parenthesis, and those after it
 abbrev pub angle_at : ℕ → List Lexeme → Option (List Lexeme × Bool × List Lexeme)
 angle_at depth [] = None
-angle_at depth (l ∷ ls) = cond (ends_angle depth l) (Some ([], is_mark closing_parenthesis l, ls)) (led_by l (angle_at (deeper depth l) ls))
+angle_at depth (l ∷ ls) = cond (ends_angle depth l) (Some ([], is_mark (code ")") l, ls)) (led_by l (angle_at (deeper depth l) ls))
 
 abbrev pub then_angle : Option (List Lexeme × Bool) → List Lexeme → Option (List Lexeme × Bool × List Lexeme)
-then_angle None rest = None
-then_angle (Some p) rest = Some (p.0, p.1, rest)
+then_angle read rest = option_map (λ p. (p.0, p.1, rest)) read

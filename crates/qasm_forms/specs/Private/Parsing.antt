@@ -1,10 +1,10 @@
 -- How the lexemes of a statement before its end are read, step by step.
-use Rattle.std.specs.Prelude.{ℕ, Bool, true, false, ◌&&◌, cond, List, [], ◌∷◌, Option, Some, None, codes}
-use Rattle.std.specs.List.{list_any}
+use Prim.Native.Char.{code}
+use Rattle.std.specs.Prelude.{ℕ, Bool, false, ◌&&◌, cond, List, [], ◌∷◌, Option, Some, None, unwrap_or, option_map, option_and_then, codes}
+use Rattle.std.specs.List.{list_any, onto_first, slice_split}
+use Rattle.std.specs.Option.{option_map_or}
 use Rattle.std.specs.Str.{bytes_eq}
-use Rattle.std.specs.Borrow.{Bor}
 use Rattle.qasm_forms.specs.declared.lexemes.Stop.TheVariants.{Comma, To}
-use Rattle.qasm_lex.specs.Characters.{opening_parenthesis, closing_parenthesis}
 use Rattle.qasm_lex.specs.Lexemes.{Lexeme, word, real, quoted}
 use Rattle.qasm_forms.specs.Statements.{Argument, Statement, version, include, qubits, bits, barrier, measure, call, left_out, is_mark, is_name}
 use Rattle.qasm_forms.specs.Private.Fronts.{and_then, name_at, mark_at, at_end, index_at, ends_angle, deeper}
@@ -19,70 +19,44 @@ indexed name (l ∷ ls) = and_then (index_at (l ∷ ls)) (λ d. Some (record { n
 abbrev pub argument_at : List Lexeme → Option Argument
 argument_at ls = and_then (name_at ls) (λ n. indexed n.0 n.1)
 
-abbrev pub lead : {X : Type 0} → X → List (List X) → List (List X)
-lead x [] = (x ∷ []) ∷ []
-lead x (xs ∷ more) = (x ∷ xs) ∷ more
-
--- the parts between commas
-abbrev pub split : List Lexeme → List (List Lexeme)
-split [] = [] ∷ []
-split (l ∷ ls) = cond (is_stop Comma l) ([] ∷ split ls) (lead l (split ls))
-
 -- all of them are arguments
 abbrev pub gather : List (List Lexeme) → Option (List Argument)
 gather [] = Some []
 gather (p ∷ ps) = and_then (argument_at p) (λ a. and_then (gather ps) (λ more. Some (a ∷ more)))
 
+-- arguments with a comma between two
 abbrev pub arguments_at : List Lexeme → Option (List Argument)
-arguments_at ls = gather (split ls)
+arguments_at ls = gather (slice_split (is_stop Comma) ls)
 
 -- the arguments that are left of a list
-abbrev pub or_none : {X : Type 0} → Option (List X) → List X
-or_none None = []
-or_none (Some all) = all
-
 abbrev pub left_arguments : Bool → List Lexeme → List Argument
-left_arguments true ls = []
-left_arguments false ls = or_none (arguments_at ls)
+left_arguments done ls = cond done [] (unwrap_or (arguments_at ls) [])
 
 -- angles up to the closing parenthesis, and what follows it
 abbrev pub lead_angle : Lexeme → Option (List (List Lexeme) × List Lexeme) → Option (List (List Lexeme) × List Lexeme)
-lead_angle l None = None
-lead_angle l (Some p) = Some (lead l p.0, p.1)
+lead_angle l read = option_map (λ p. (onto_first l p.0, p.1)) read
 
 abbrev pub next_angle : List Lexeme → Option (List (List Lexeme) × List Lexeme) → Option (List (List Lexeme) × List Lexeme)
-next_angle a None = None
-next_angle a (Some p) = Some (a ∷ p.0, p.1)
+next_angle a read = option_map (λ p. (a ∷ p.0, p.1)) read
 
 abbrev pub scan : ℕ → List Lexeme → Option (List (List Lexeme) × List Lexeme)
 scan depth [] = None
-scan depth (l ∷ ls) = cond (ends_angle depth l) (cond (is_mark closing_parenthesis l) (Some ([] ∷ [], ls)) (next_angle [] (scan 0 ls))) (lead_angle l (scan (deeper depth l) ls))
+scan depth (l ∷ ls) = cond (ends_angle depth l) (cond (is_mark (code ")") l) (Some ([] ∷ [], ls)) (next_angle [] (scan 0 ls))) (lead_angle l (scan (deeper depth l) ls))
 
 abbrev pub filled : Option (List (List Lexeme) × List Lexeme) → Option (List (List Lexeme) × List Lexeme)
-filled None = None
-filled (Some p) = cond (list_any is_nothing p.0) None (Some p)
+filled read = option_and_then (λ p. cond (list_any is_nothing p.0) None (Some p)) read
 
--- the angles that were read, and what follows them
-abbrev pub angles_in : Option (List (List Lexeme) × List Lexeme) → List (List Lexeme)
-angles_in None = []
-angles_in (Some p) = p.0
-
+-- what follows the angles that were read
 abbrev pub behind_angles : Option (List (List Lexeme) × List Lexeme) → Option (List Lexeme)
-behind_angles None = None
-behind_angles (Some p) = Some p.1
+behind_angles read = option_map (λ p. p.1) read
 
+-- the angles that are left of a list
 abbrev pub left_angles : Bool → List Lexeme → List (List Lexeme)
-left_angles true ls = []
-left_angles false ls = angles_in (filled (scan 0 ls))
+left_angles done ls = cond done [] (option_map_or (λ p. p.0) (filled (scan 0 ls)) [])
 
--- nothing, or angles that have lexemes
-abbrev pub angles_from : List Lexeme → Option (List Lexeme) → Option (List (List Lexeme) × List Lexeme)
-angles_from ls None = filled (scan 0 ls)
-angles_from ls (Some rest) = Some ([], rest)
-
--- angles after an opening parenthesis up to the closing one, and what follows it
+-- none or some angles after an opening parenthesis up to the closing one, and what follows it
 abbrev pub angles_at : List Lexeme → Option (List (List Lexeme) × List Lexeme)
-angles_at ls = angles_from ls (mark_at closing_parenthesis ls)
+angles_at ls = option_map_or (λ rest. Some ([], rest)) (mark_at (code ")") ls) (filled (scan 0 ls))
 
 -- a name with a size
 abbrev pub declaration_at : List Lexeme → Option (List ℕ × List ℕ)
@@ -96,10 +70,6 @@ abbrev pub included_at : List Lexeme → Option (List ℕ)
 included_at (quoted bytes ∷ ls) = at_end bytes ls
 included_at _ = None
 
-abbrev pub paired : Option (Argument × Argument) → Option Statement
-paired None = None
-paired (Some p) = Some (measure p.0 p.1)
-
 abbrev pub measure_at : List Lexeme → Option Statement
 measure_at ls = cond (has_stop To ls) (and_then (argument_at (before_stop To ls)) (λ a. and_then (argument_at (after_stop To ls)) (λ b. Some (measure a b)))) None
 
@@ -108,7 +78,7 @@ call_from name ls None = and_then (arguments_at ls) (λ all. Some (call name Non
 call_from name ls (Some inner) = and_then (angles_at inner) (λ p. and_then (arguments_at p.1) (λ all. Some (call name (Some p.0) all)))
 
 abbrev pub call_at : List ℕ → List Lexeme → Option Statement
-call_at name ls = call_from name ls (mark_at opening_parenthesis ls)
+call_at name ls = call_from name ls (mark_at (code "(") ls)
 
 -- by the first word, and whether it is left out
 unfoldable pub after_word : Bool → List ℕ → List Lexeme → Option Statement
@@ -126,7 +96,3 @@ after_word left first ls =
 abbrev pub statement_at : Bool → List Lexeme → Option Statement
 statement_at left (word first ∷ ls) = after_word left first ls
 statement_at left _ = None
-
-abbrev pub seen_pair : Option (Bor (List ℕ) × Bor (List ℕ)) → Option (List ℕ × List ℕ)
-seen_pair None = None
-seen_pair (Some p) = Some (p.0.now, p.1.now)

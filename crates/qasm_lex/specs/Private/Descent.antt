@@ -1,5 +1,5 @@
 -- What the private functions of the descent return.
-use Rattle.std.specs.Prelude.{ℕ, zero, suc, ◌+◌, ◌*◌, length, List, [], ◌∷◌, Option, Some, None, Result, Err}
+use Rattle.std.specs.Prelude.{ℕ, zero, suc, ◌+◌, ◌*◌, length, List, [], ◌∷◌, Option, Some, None, option_map, option_and_then, Result, Err}
 use Rattle.qasm_lex.specs.declared.symbol.Symbol.{Symbol}
 use Rattle.qasm_lex.specs.declared.symbol.Symbol.TheVariants.{Whole, Real, Pi, Function, Plus, Minus, Times, Over, Caret, Open, Close}
 use Rattle.qasm_lex.specs.Expressions.{Algebra}
@@ -25,52 +25,51 @@ Found X = Option (X × List Symbol)
 
 -- go on after what was read
 abbrev pub next : {X : Type 0} → Found X → (X → List Symbol → Found X) → Found X
-next None f = None
-next (Some p) f = f p.0 p.1
+next read f = option_and_then (λ p. f p.0 p.1) read
 
 -- a closing parenthesis after a value
 abbrev pub close : {X : Type 0} → X → List Symbol → Found X
 close v (Close ∷ s) = Some (v, s)
 close v _ = None
 
+-- one step of the descent, which reads parts by rec
+abbrev pub step : {X : Type 0} → Algebra X → (Goal X → List Symbol → Found X) → Goal X → List Symbol → Found X
+step o rec expr s = next (rec term s) (λ v r. rec (terms v) r)
+step o rec (terms v) (Plus ∷ s) = next (rec term s) (λ w r. rec (terms (o.sum v w)) r)
+step o rec (terms v) (Minus ∷ s) = next (rec term s) (λ w r. rec (terms (o.difference v w)) r)
+step o rec (terms v) s = Some (v, s)
+step o rec term s = next (rec factor s) (λ v r. rec (factors v) r)
+step o rec (factors v) (Times ∷ s) = next (rec factor s) (λ w r. rec (factors (o.product v w)) r)
+step o rec (factors v) (Over ∷ s) = next (rec factor s) (λ w r. rec (factors (o.quotient v w)) r)
+step o rec (factors v) s = Some (v, s)
+step o rec factor (Minus ∷ s) = next (rec factor s) (λ v r. Some (o.negative v, r))
+step o rec factor s = rec power s
+step o rec power s = next (rec atom s) (λ v r. rec (raise v) r)
+step o rec (raise v) (Caret ∷ s) = next (rec factor s) (λ w r. Some (o.power v w, r))
+step o rec (raise v) s = Some (v, s)
+step o rec atom (Whole k ∷ s) = Some (o.of_whole k, s)
+step o rec atom (Real ∷ s) = Some (o.of_real, s)
+step o rec atom (Pi ∷ s) = Some (o.of_pi, s)
+step o rec atom (Open ∷ s) = next (rec expr s) (λ v r. close (o.grouped v) r)
+step o rec atom (Function ∷ Open ∷ s) = next (rec expr s) (λ v r. close (o.call v) r)
+step o rec atom s = None
+
 -- the descent, n deep at most
 unfoldable pub parse : {X : Type 0} → Algebra X → ℕ → Goal X → List Symbol → Found X
 parse o zero g s = None
-parse o (suc n) expr s = next (parse o n term s) (λ v r. parse o n (terms v) r)
-parse o (suc n) (terms v) (Plus ∷ s) = next (parse o n term s) (λ w r. parse o n (terms (o.sum v w)) r)
-parse o (suc n) (terms v) (Minus ∷ s) = next (parse o n term s) (λ w r. parse o n (terms (o.difference v w)) r)
-parse o (suc n) (terms v) s = Some (v, s)
-parse o (suc n) term s = next (parse o n factor s) (λ v r. parse o n (factors v) r)
-parse o (suc n) (factors v) (Times ∷ s) = next (parse o n factor s) (λ w r. parse o n (factors (o.product v w)) r)
-parse o (suc n) (factors v) (Over ∷ s) = next (parse o n factor s) (λ w r. parse o n (factors (o.quotient v w)) r)
-parse o (suc n) (factors v) s = Some (v, s)
-parse o (suc n) factor (Minus ∷ s) = next (parse o n factor s) (λ v r. Some (o.negative v, r))
-parse o (suc n) factor s = parse o n power s
-parse o (suc n) power s = next (parse o n atom s) (λ v r. parse o n (raise v) r)
-parse o (suc n) (raise v) (Caret ∷ s) = next (parse o n factor s) (λ w r. Some (o.power v w, r))
-parse o (suc n) (raise v) s = Some (v, s)
-parse o (suc n) atom (Whole k ∷ s) = Some (o.of_whole k, s)
-parse o (suc n) atom (Real ∷ s) = Some (o.of_real, s)
-parse o (suc n) atom (Pi ∷ s) = Some (o.of_pi, s)
-parse o (suc n) atom (Open ∷ s) = next (parse o n expr s) (λ v r. close (o.grouped v) r)
-parse o (suc n) atom (Function ∷ Open ∷ s) = next (parse o n expr s) (λ v r. close (o.call v) r)
-parse o (suc n) atom s = None
+parse o (suc n) g s = step o (parse o n) g s
 
 -- what was read, and what is left
 abbrev pub seen : Option Outcome → List Symbol → Found Outcome
-seen None s = None
-seen (Some v) s = Some (v, s)
+seen value s = option_map (λ v. (v, s)) value
 
 -- a depth that is enough
 abbrev pub bound : {X : Type 0} → Goal X → ℕ
 bound expr = 7
-bound (terms v) = 1
 bound term = 5
-bound (factors v) = 1
 bound factor = 3
 bound power = 2
-bound (raise v) = 1
-bound atom = 1
+bound _ = 1
 
 -- the descent, as deep as it goes
 unfoldable pub parsed : Goal Outcome → List Symbol → Found Outcome
@@ -83,8 +82,7 @@ ended (c ∷ s) v = None
 
 -- the value where nothing is left
 abbrev pub whole_of : Found Outcome → Option Outcome
-whole_of None = None
-whole_of (Some p) = ended p.1 p.0
+whole_of read = option_and_then (λ p. ended p.1 p.0) read
 
 -- the answer to what was read
 abbrev pub answer_from : Option Outcome → Result Ratio AngleRefusal

@@ -14,30 +14,10 @@ abbrev pub is_e : Class → Bool
 is_e LetterE = true
 is_e _ = false
 
--- the point
-abbrev pub is_point : Class → Bool
-is_point Point = true
-is_point _ = false
-
--- the quote
-abbrev pub is_quote : Class → Bool
-is_quote Quote = true
-is_quote _ = false
-
--- `>`
-abbrev pub is_greater : Class → Bool
-is_greater Greater = true
-is_greater _ = false
-
--- `=`
-abbrev pub is_equals : Class → Bool
-is_equals Equals = true
-is_equals _ = false
-
--- `/`
-abbrev pub is_slash : Class → Bool
-is_slash Slash = true
-is_slash _ = false
+-- the class of the first byte, or Other where there is none
+abbrev pub front_class : List ℕ → Class
+front_class [] = Other
+front_class (b ∷ bs) = class_of b
 
 -- how many bytes at the front are in the part
 unfoldable pub run : Part → List ℕ → ℕ
@@ -69,38 +49,38 @@ without_point whole after =
     let more = exponent after in
     cond (nat_eq more 0) (Some (Token Whole, whole)) (Some (Token Real, whole + more))
 
--- a number of so many digits, from after them
-abbrev pub at_point : ℕ → List ℕ → Option (Form × ℕ)
-at_point whole [] = without_point whole []
-at_point whole (b ∷ after) = cond (is_point (class_of b)) (with_point whole after) (without_point whole (b ∷ after))
+-- a number of so many digits, by the class of the byte after them
+abbrev pub at_point : ℕ → Class → List ℕ → Option (Form × ℕ)
+at_point whole Point after = with_point whole (drop 1 after)
+at_point whole _ after = without_point whole after
 
 -- a number
 unfoldable pub number : List ℕ → Option (Form × ℕ)
-number bs = at_point (run Digits bs) (drop (run Digits bs) bs)
+number bs = at_point (run Digits bs) (front_class (drop (run Digits bs) bs)) (drop (run Digits bs) bs)
 
--- a text of so many bytes, from its closing quote
-abbrev pub closed : ℕ → List ℕ → Option (Form × ℕ)
-closed n [] = None
-closed n (b ∷ after) = cond (is_quote (class_of b)) (Some (Token Text, n + 2)) None
+-- a text of so many bytes, by the class of the byte after them
+abbrev pub closed : ℕ → Class → Option (Form × ℕ)
+closed n Quote = Some (Token Text, n + 2)
+closed n _ = None
 
 -- a text, from after its quote
 unfoldable pub quoted : List ℕ → Option (Form × ℕ)
-quoted after = closed (run Quoted after) (drop (run Quoted after) after)
+quoted after = closed (run Quoted after) (front_class (drop (run Quoted after) after))
 
--- an arrow or a mark, from after the minus
-abbrev pub after_minus : List ℕ → ℕ → Option (Form × ℕ)
-after_minus [] b = Some (Token (Mark b), 1)
-after_minus (c ∷ after) b = cond (is_greater (class_of c)) (Some (Token Arrow, 2)) (Some (Token (Mark b), 1))
+-- an arrow or a mark, by the class of the byte after the minus
+abbrev pub after_minus : Class → ℕ → Option (Form × ℕ)
+after_minus Greater b = Some (Token Arrow, 2)
+after_minus _ b = Some (Token (Mark b), 1)
 
--- a double equals sign, from after the first
-abbrev pub after_equals : List ℕ → Option (Form × ℕ)
-after_equals [] = None
-after_equals (c ∷ after) = cond (is_equals (class_of c)) (Some (Token Equal, 2)) None
+-- a double equals sign, by the class of the byte after the first
+abbrev pub after_equals : Class → Option (Form × ℕ)
+after_equals Equals = Some (Token Equal, 2)
+after_equals _ = None
 
--- a comment or a mark, from after the slash
-abbrev pub after_slash : List ℕ → ℕ → Option (Form × ℕ)
-after_slash [] b = Some (Token (Mark b), 1)
-after_slash (c ∷ after) b = cond (is_slash (class_of c)) (Some (Comment, run Commented after + 2)) (Some (Token (Mark b), 1))
+-- a comment or a mark, by the class of the byte after the slash
+abbrev pub after_slash : Class → List ℕ → ℕ → Option (Form × ℕ)
+after_slash Slash after b = Some (Comment, run Commented (drop 1 after) + 2)
+after_slash _ after b = Some (Token (Mark b), 1)
 
 -- the piece that begins with a byte of this class
 abbrev pub piece_at : Class → ℕ → List ℕ → Option (Form × ℕ)
@@ -110,9 +90,9 @@ piece_at Digit b after = number (b ∷ after)
 piece_at Point b after = number (b ∷ after)
 piece_at Quote b after = quoted after
 piece_at Plus b after = Some (Token (Mark b), 1)
-piece_at Minus b after = after_minus after b
-piece_at Equals b after = after_equals after
-piece_at Slash b after = after_slash after b
+piece_at Minus b after = after_minus (front_class after) b
+piece_at Equals b after = after_equals (front_class after)
+piece_at Slash b after = after_slash (front_class after) after b
 piece_at LineFeed b after = Some (Blank, 1)
 piece_at BlankClass b after = Some (Blank, 1)
 piece_at MarkClass b after = Some (Token (Mark b), 1)

@@ -1,10 +1,10 @@
 -- The circuit of the statements so far, and statements carried out on it.
 use Rattle.std.specs.Prelude.{◌≡◌, ℕ, ◌+◌, ◌*◌, ◌≤◌, ◌<◌, Bool, true, false, not, cond, nat_lt, List, [], ◌∷◌, ◌++◌, length, map, replicate, set, All, Option, Some, None, Result, Ok, Err, codes}
 use Rattle.std.specs.List.{list_any, AllByRecursion}
+use Rattle.std.specs.Option.{option_map_or}
 use Rattle.std.specs.Str.{bytes_eq}
 use Rattle.gate_set.specs.declared.gate.Gate.{Gate}
 use Rattle.gate_set.specs.Shape.{IsOn}
-use Rattle.gate_set.specs.Circuits.{Circuit}
 use Rattle.qasm_lex.specs.Lexemes.{Lexeme}
 use Rattle.qasm_lex.specs.Symbols.{decimal}
 use Rattle.qasm_forms.specs.Statements.{Statement, version, include, qubits, bits, barrier, measure, call, left_out, Argument, ended}
@@ -16,8 +16,7 @@ use Rattle.qasm_reader.specs.Calls.{Named, builtin, listed}
 use Rattle.qasm_reader.specs.Parts.{Part}
 use Rattle.qasm_reader.specs.Reasons.{is_declared, is_unknown, is_beyond, no_size, miscounts, Refuses}
 use Rattle.qasm_reader.specs.Reading.{Accepts, AllAccepted}
-use Rattle.qasm_reader.specs.Private.Scope.{find, both_found, why_missed, differ, repeats, touches}
-use Rattle.qasm_reader.specs.Private.Tests.{Taken, other_count}
+use Rattle.qasm_reader.specs.Private.Scope.{Taken, find, both_found, why_missed, differ, repeats, touches, other_count}
 
 -- registers by name, how many qubits they have, the gates, and which qubits are measured
 pub record Draft : Type 0 where
@@ -51,24 +50,17 @@ pub record Follows (limit : ℕ) (acts : List Act) (d : Draft) : Type 0 where
 
 -- a draft goes on, or the statement is refused
 abbrev pub outcome : Option Why → Draft → Result Draft Why
-outcome None d = Ok d
-outcome (Some why) d = Err why
+outcome why d = option_map_or Err why (Ok d)
 
 abbrev pub with_qubits : Draft → List ℕ → ℕ → Draft
-with_qubits d name size = record {
+with_qubits d name size = record d {
   registers = d.registers ++ (name, record { quantum = true; first = d.qubits; size = size }) ∷ [];
   qubits = d.qubits + size;
-  gates = d.gates;
   measured = d.measured ++ replicate size false;
 }
 
 abbrev pub with_bits : Draft → List ℕ → ℕ → Draft
-with_bits d name size = record {
-  registers = d.registers ++ (name, record { quantum = false; first = 0; size = size }) ∷ [];
-  qubits = d.qubits;
-  gates = d.gates;
-  measured = d.measured;
-}
+with_bits d name size = record d { registers = d.registers ++ (name, record { quantum = false; first = 0; size = size }) ∷ [] }
 
 abbrev pub include_on : Draft → List ℕ → Result Draft Why
 include_on d text = cond (not (bytes_eq text (codes "\"qelib1.inc\""))) (Err OutOfProfile) (Ok d)
@@ -80,14 +72,6 @@ qubits_on limit d name size =
 abbrev pub bits_on : Draft → List ℕ → ℕ → Result Draft Why
 bits_on d name size = cond (is_declared d.registers name) (Err Redeclared) (cond (no_size size) (Err IndexOutOfRange) (Ok (with_bits d name size)))
 
--- that the name is declared, or another reason
-abbrev pub or_redeclared : List (List ℕ × Register) → List ℕ → Why → Why
-or_redeclared all name why = cond (is_declared all name) Redeclared why
-
--- a size that a register may have
-abbrev pub size_of : ℕ → Option ℕ
-size_of n = cond (no_size n) None (Some n)
-
 abbrev pub barrier_on : Draft → List Argument → Result Draft Why
 barrier_on d all = cond (list_any (is_unknown d.registers true) all) (Err UnknownRegister) (cond (list_any (is_beyond d.registers) all) (Err IndexOutOfRange) (Ok d))
 
@@ -97,7 +81,7 @@ raised flags [] = flags
 raised flags (q ∷ qs) = raised (set flags q true) qs
 
 abbrev pub with_measured : Draft → List ℕ → Draft
-with_measured d qs = record { registers = d.registers; qubits = d.qubits; gates = d.gates; measured = raised d.measured qs }
+with_measured d qs = record d { measured = raised d.measured qs }
 
 abbrev pub measured_on : Draft → Result (Target × Target) Miss → Result Draft Why
 measured_on d (Err miss) = Err (why_missed miss)
@@ -107,7 +91,7 @@ abbrev pub measure_on : Draft → Argument → Argument → Result Draft Why
 measure_on d from to = measured_on d (both_found (find d.registers true from) (find d.registers false to))
 
 abbrev pub with_gates : Draft → List Gate → Draft
-with_gates d more = record { registers = d.registers; qubits = d.qubits; gates = d.gates ++ more; measured = d.measured }
+with_gates d more = record d { gates = d.gates ++ more }
 
 -- the gates that the angles of a call come to
 abbrev pub bodied : Taken → Result (List Item) Why
@@ -123,19 +107,14 @@ counted_on d ts (Ok items) =
 abbrev pub applied : Draft → Taken → List Target → Result Draft Why
 applied d t ts = cond (differ (wholes ts)) (Err SizesDiffer) (cond (repeats ts) (Err RepeatedQubit) (counted_on d ts (bodied t)))
 
-abbrev pub applied_to : Draft → Taken → Option (List Target) → Result Draft Why
-applied_to d t None = Err UnknownRegister
-applied_to d t (Some ts) = applied d t ts
-
 abbrev pub gate_on : Draft → Named → ℕ → Taken → List Argument → Result Draft Why
 gate_on d called angles t all =
     cond (list_any (is_unknown d.registers true) all) (Err UnknownRegister)
     (cond (list_any (is_beyond d.registers) all) (Err IndexOutOfRange)
-    (cond (miscounts (Some called) (length all) angles) (Err WrongCount) (applied_to d t (targets d.registers all))))
+    (cond (miscounts (Some called) (length all) angles) (Err WrongCount) (option_map_or (applied d t) (targets d.registers all) (Err UnknownRegister))))
 
 abbrev pub call_on : Draft → Option Named → ℕ → Taken → List Argument → Result Draft Why
-call_on d None angles t all = Err UnknownName
-call_on d (Some called) angles t all = gate_on d called angles t all
+call_on d named angles t all = option_map_or (λ called. gate_on d called angles t all) named (Err UnknownName)
 
 -- the draft with the statement carried out, or why it is refused; its angles come to this
 abbrev pub step : ℕ → Draft → Statement → Taken → Result Draft Why
@@ -154,12 +133,7 @@ is_version _ = false
 
 -- why there is no statement where one is wanted
 abbrev pub no_form : Bool → Why
-no_form true = NoVersion
-no_form false = NotAStatement
-
-abbrev pub is_first : List Act → Bool
-is_first [] = true
-is_first (a ∷ acts) = false
+no_form first = cond first NoVersion NotAStatement
 
 -- a statement with its end, by the lexemes before that
 abbrev pub ended_part : List Lexeme → Part
@@ -178,7 +152,3 @@ pub record Reached (limit : ℕ) (all rest : List Part) (d : Draft) (number : �
   pub accepted : AllAccepted limit [] good acts
   pub follows : Follows limit acts d
   pub count : number ≡ length good + 1
-
--- the circuit of a draft
-abbrev pub circuit_in : Draft → Circuit
-circuit_in d = record { qubits = d.qubits; gates = d.gates; measured = d.measured }

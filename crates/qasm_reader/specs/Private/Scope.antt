@@ -1,29 +1,38 @@
 -- What the reader knows at a statement, and its tests there.
 use Rattle.std.specs.List.{list_any}
-use Rattle.std.specs.Prelude.{not, get_or, ℕ, ◌+◌, ◌*◌, Bool, true, false, ◌||◌, cond, nat_lt, nat_le, nat_eq, List, [], ◌∷◌, ◌++◌, length, replicate, Option, Some, None, Result, Ok, Err}
+use Rattle.std.specs.Result.{result_map_both}
+use Rattle.std.specs.Prelude.{◌≡◌, not, get_or, ℕ, ◌+◌, ◌*◌, Bool, true, false, ◌||◌, cond, nat_lt, nat_eq, List, [], ◌∷◌, ◌++◌, length, replicate, Option, Some, None, ok_or, Result, Ok, Err}
 use Rattle.gate_set.specs.declared.kind.Kind.{Kind}
+use Rattle.qasm_lex.specs.declared.refusal.AngleRefusal.{AngleRefusal}
+use Rattle.qasm_lex.specs.Lexemes.{Lexeme}
+use Rattle.qasm_lex.specs.Fractions.{Ratio}
 use Rattle.qasm_forms.specs.Statements.{Argument}
 use Rattle.qasm_reader.specs.declared.registers.Miss.{Miss}
 use Rattle.qasm_reader.specs.declared.registers.Miss.TheVariants.{Unknown, Beyond}
 use Rattle.qasm_reader.specs.declared.calls.Found.{Found as CodeFound}
 use Rattle.qasm_reader.specs.declared.reason.Why.{Why}
 use Rattle.qasm_reader.specs.declared.reason.Why.TheVariants.{UnknownRegister, IndexOutOfRange, SizesDiffer, RepeatedQubit, Measured, TooManyGates}
-use Rattle.qasm_reader.specs.Acts.{Register, Target, Item, register, index_of, place_in, wholes, place_count, qubits_at, up_to, is_among}
-use Rattle.qasm_reader.specs.Calls.{one}
-use Rattle.qasm_reader.specs.Reasons.{same_sort}
+use Rattle.qasm_reader.specs.Acts.{Register, Target, Item, target, wholes, place_count, qubits_at, up_to, is_among}
+use Rattle.qasm_reader.specs.Calls.{Named, Gives, AreValues, one}
+use Rattle.qasm_reader.specs.Reasons.{is_unknown, is_beyond, FirstRefused}
 use Rattle.qasm_reader.specs.Private.Seen.{seen_targets}
 
-abbrev pub placed_at : Register → Option ℕ → Result Target Miss
-placed_at r None = Ok (place_in r None)
-placed_at r (Some i) = cond (nat_le r.size i) (Err Beyond) (Ok (place_in r (Some i)))
+-- what the angles of a call come to: the gates of the call, none, or a refusal
+abbrev pub Taken : Type 0
+Taken = Result (Option (List Item)) AngleRefusal
 
-abbrev pub find_in : Option Register → Bool → Option ℕ → Result Target Miss
-find_in None quantum index = Err Unknown
-find_in (Some r) quantum index = cond (same_sort quantum (Some r)) (placed_at r index) (Err Unknown)
+abbrev pub Yields : Option Named → List (List Lexeme) → Taken → Type 0
+Yields named angles (Ok (Some items)) = (called : Named) × (values : List Ratio) × (named ≡ Some called) × AreValues angles values × Gives called values items
+Yields named angles (Ok None) = (values : List Ratio) × AreValues angles values × ((called : Named) (items : List Item) → named ≡ Some called → Gives called values items → ⊥)
+Yields named angles (Err e) = FirstRefused angles e
+
+-- the target of an argument whose register is known and whose index isn't beyond it
+abbrev pub found_as : Bool → Bool → Option Target → Result Target Miss
+found_as unknown beyond t = cond unknown (Err Unknown) (cond beyond (Err Beyond) (ok_or t Unknown))
 
 -- what an argument means among the registers of a sort, or why it means nothing
 abbrev pub find : List (List ℕ × Register) → Bool → Argument → Result Target Miss
-find all quantum a = find_in (register all a.name) quantum (index_of a.index)
+find all quantum a = found_as (is_unknown all quantum a) (is_beyond all a) (target all a)
 
 abbrev pub why_missed : Miss → Why
 why_missed Unknown = UnknownRegister
@@ -47,24 +56,13 @@ pub record Found : Type 0 where
 abbrev pub seen_found : CodeFound → Found
 seen_found f = record { targets = seen_targets f.targets.items; count = f.count; unknown = f.unknown; beyond = f.beyond }
 
-abbrev pub nothing_found : Found
-nothing_found = record { targets = []; count = 0; unknown = false; beyond = false }
-
 abbrev pub next_count : ℕ → ℕ
 next_count n = cond (nat_lt n 4) (n + 1) n
 
 abbrev pub noted : Found → Result Target Miss → Found
-noted f (Ok t) = record { targets = cond (nat_lt (length f.targets) 3) (f.targets ++ t ∷ []) f.targets; count = next_count f.count; unknown = f.unknown; beyond = f.beyond }
-noted f (Err Unknown) = record { targets = f.targets; count = next_count f.count; unknown = true; beyond = f.beyond }
-noted f (Err Beyond) = record { targets = f.targets; count = next_count f.count; unknown = f.unknown; beyond = true }
-
-abbrev pub look : List (List ℕ × Register) → Found → List Argument → Found
-look all f [] = f
-look all f (a ∷ more) = look all (noted f (find all true a)) more
-
--- a number up to a most
-abbrev pub capped : ℕ → ℕ → ℕ
-capped most n = cond (nat_lt n most) n most
+noted f (Ok t) = record f { targets = cond (nat_lt (length f.targets) 3) (f.targets ++ t ∷ []) f.targets; count = next_count f.count }
+noted f (Err Unknown) = record f { count = next_count f.count; unknown = true }
+noted f (Err Beyond) = record f { count = next_count f.count; beyond = true }
 
 abbrev pub other_than : ℕ → ℕ → Bool
 other_than n m = not (nat_eq m n)
@@ -89,13 +87,16 @@ flagged flags q = get_or flags q false
 abbrev pub touches : List Bool → List Target → Bool
 touches flags ts = list_any (λ place. list_any (flagged flags) (qubits_at ts place)) (up_to (place_count ts))
 
+-- whether two targets differ in how many places they have
+abbrev pub other_count : Target → Target → Bool
+other_count f t = not (nat_eq (place_count (f ∷ [])) (place_count (t ∷ [])))
+
 -- so many gates of a kind
 abbrev pub items_of : Kind × ℕ → List Item
 items_of p = replicate p.1 (one p.0)
 
 abbrev pub bodies : Result (Kind × ℕ) Why → Result (List Item) Why
-bodies (Ok p) = Ok (items_of p)
-bodies (Err why) = Err why
+bodies body = result_map_both items_of (λ why. why) body
 
 abbrev pub counted : List Bool → List Target → ℕ → Result (Kind × ℕ) Why → Result (Kind × ℕ) Why
 counted flags ts gates (Err why) = Err why

@@ -1,5 +1,6 @@
 -- The code's types as the definitions have them.
-use Rattle.std.specs.Prelude.{ℕ, List, map, Option, Some, None, Result, Ok, Err}
+use Rattle.std.specs.Prelude.{ℕ, List, map, Result}
+use Rattle.std.specs.Result.{result_map_both}
 use Rattle.std.specs.Borrow.{Bor}
 use Rattle.qasm_reader.specs.declared.registers.Register.{Register as Row}
 use Rattle.qasm_reader.specs.declared.registers.Target.{Target as Place}
@@ -12,10 +13,6 @@ use Rattle.qasm_reader.specs.Calls.{Named, gate, turn}
 abbrev pub seen_register : Row → Register
 seen_register r = record { quantum = r.quantum; first = r.first; size = r.size }
 
-abbrev pub seen_row : Option Row → Option Register
-seen_row None = None
-seen_row (Some r) = Some (seen_register r)
-
 abbrev pub seen_target : Place → Target
 seen_target t = place_in (seen_register t.register) t.index
 
@@ -23,20 +20,14 @@ abbrev pub seen_targets : List Place → List Target
 seen_targets ts = map seen_target ts
 
 abbrev pub seen_find : Result Place Miss → Result Target Miss
-seen_find (Ok t) = Ok (seen_target t)
-seen_find (Err m) = Err m
+seen_find t = result_map_both seen_target (λ m. m) t
 
 abbrev pub seen_both : Result (Place × Place) Miss → Result (Target × Target) Miss
-seen_both (Ok p) = Ok (seen_target p.0, seen_target p.1)
-seen_both (Err m) = Err m
+seen_both ts = result_map_both (λ p. (seen_target p.0, seen_target p.1)) (λ m. m) ts
 
 abbrev pub seen_named : Builtin → Named
 seen_named (Gate kind) = gate kind
 seen_named (Turn forth back) = turn forth back
-
-abbrev pub seen_name : Option Builtin → Option Named
-seen_name None = None
-seen_name (Some b) = Some (seen_named b)
 
 -- an entry of the map of registers
 abbrev pub entry_of : Bor (List ℕ) × Row → List ℕ × Register

@@ -1,5 +1,5 @@
 use Rattle.std.proofs.Common.{◌≡◌, ◌+◌, length}
-use Rattle.qasm_forms.specs.Private.Fronts.{stop_place}
+use Rattle.qasm_forms.proofs.Tokens.{stop_place}
 use Rattle.qasm_forms.proofs.lexemes.stop_place.Given as goal
 
 abbrev pub invariant-loop-token : goal.invariant-loop-token

@@ -1,5 +1,6 @@
 use Rattle.std.proofs.Common.{◌≡◌, ◌≤◌, length}
-use Rattle.qasm_reader.specs.Private.Scope.{seen_found, nothing_found, look}
+use Rattle.qasm_reader.specs.Private.Scope.{seen_found}
+use Rattle.qasm_reader.proofs.Looking.{nothing_found, look}
 use Rattle.qasm_reader.proofs.calls.look_up.Given as goal
 
 abbrev pub invariant-loop-argument : goal.invariant-loop-argument

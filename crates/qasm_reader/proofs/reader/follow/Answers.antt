@@ -3,7 +3,7 @@ use Rattle.qasm_forms.specs.Statements.{IsStatement, ended, written}
 use Rattle.qasm_forms.specs.Shown.{shown}
 use Rattle.qasm_reader.specs.Profile.{leaves}
 use Rattle.qasm_reader.specs.Reasons.{Refuses, angles_of, called_in}
-use Rattle.qasm_reader.specs.Private.Tests.{Yields}
+use Rattle.qasm_reader.specs.Private.Scope.{Yields}
 use Rattle.qasm_reader.specs.Private.Drafts.{ended_part}
 use Rattle.qasm_reader.proofs.Following.{no_statement, out_of_place, carried_out, none_shown, some_shown, same_called, differs, agrees}
 use Rattle.qasm_reader.proofs.Yielding.{every_yield}

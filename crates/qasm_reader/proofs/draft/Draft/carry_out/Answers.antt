@@ -2,7 +2,7 @@ use Rattle.std.proofs.Common.{◌≡◌, sym, subst, [], IfOk}
 use Rattle.qasm_forms.specs.declared.statement.Form.{Form}
 use Rattle.qasm_forms.specs.Shown.{shown}
 use Rattle.qasm_reader.specs.Reasons.{angles_of, called_in}
-use Rattle.qasm_reader.specs.Private.Tests.{Taken, Yields}
+use Rattle.qasm_reader.specs.Private.Scope.{Taken, Yields}
 use Rattle.qasm_reader.specs.Private.Drafts.{outcome, step}
 use Rattle.qasm_reader.proofs.draft.Draft.carry_out.Goals as goal
 

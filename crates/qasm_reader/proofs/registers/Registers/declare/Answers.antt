@@ -1,4 +1,4 @@
-use Rattle.std.proofs.Common.{◌≡◌, ◌∙◌, sym, ap, rules, refl, ℕ, nat_eq, not, is_some, List, [], ◌∷◌, ◌++◌, map, None}
+use Rattle.std.proofs.Common.{◌≡◌, ◌∙◌, sym, ap, rules, refl, ℕ, nat_eq, not, is_some, List, [], ◌∷◌, ◌++◌, map, None, option_map}
 use Rattle.std.specs.Borrow.{Bor}
 use Rattle.std.specs.Map.{lookup}
 use Rattle.std.proofs.lemmas.List.{map-append}
@@ -6,14 +6,14 @@ use lib.Pointwise.{pointwise}
 use Rattle.std.proofs.lemmas.Map.Text.{hash_map_str_same}
 use Rattle.indexmap.proofs.CallerLemmas.{insert_entry-new}
 use Rattle.qasm_reader.specs.Acts.{register}
-use Rattle.qasm_reader.specs.Private.Seen.{seen_register, seen_row, entry_of}
+use Rattle.qasm_reader.specs.Private.Seen.{seen_register, entry_of}
 use Rattle.qasm_reader.proofs.Names.{lookup_named, row_there, no_row}
 use Rattle.qasm_reader.proofs.registers.Registers.declare.Goals as goal
 
 -- the row of the name before
-found : (c : goal.After-is_none) → seen_row (lookup (λ (k : Bor (List ℕ)). pointwise nat_eq c.args.name.now k.now) c.self.inside.places.entries) ≡ register c.args.self.now c.args.name.now
+found : (c : goal.After-is_none) → option_map seen_register (lookup (λ (k : Bor (List ℕ)). pointwise nat_eq c.args.name.now k.now) c.self.inside.places.entries) ≡ register c.args.self.now c.args.name.now
 found c =
-    ap seen_row (hash_map_str_same c.args.name c.args.name.now c.self.inside.places.entries refl).0
+    ap (option_map seen_register) (hash_map_str_same c.args.name c.args.name.now c.self.inside.places.entries refl).0
     ∙ lookup_named c.args.name.now c.self.inside.places.entries ∙ ap (λ r. register r c.args.name.now) c.self.view_is
 
 pub returns-clause-new : goal.returns-clause-new
