@@ -1,5 +1,5 @@
 -- Where all is in order, a command comes to its output, and to nothing else.
-use Rattle.std.proofs.Common.{◌≡◌, ◌≢◌, ◌↔◌, ℕ, ◌+◌, ◌*◌, ◌^◌, ◌<◌, ◌≤◌, Bool, false, List, length, Option, Result, Ok, Err, All, refl, sym, subst, arith}
+use Rattle.std.proofs.Common.{◌≡◌, ◌↔◌, ℕ, ◌+◌, ◌*◌, ◌^◌, ◌≤◌, Bool, false, List, length, Option, Result, Ok, Err, All, sym, subst}
 use Rattle.std.proofs.lemmas.List.{length-replicate}
 use Rattle.gate_set.specs.Circuits.{Circuit}
 use Rattle.gate_set.specs.declared.gate.Gate.{Gate}
@@ -23,7 +23,7 @@ use Rattle.demo_reads.specs.Drawn.{drawn_circuit}
 use Rattle.demo_reads.proofs.Whole.{demo_is_read}
 use Rattle.sliq_engine.specs.declared.cause.Cause.{Cause}
 use Rattle.sliq_engine.specs.declared.cause.Cause.TheVariants.{Done, WeightTooWide}
-use Rattle.sliq_engine.specs.Steps.{Reads, SameQubits, zeros, Simulates, Output, Writes}
+use Rattle.sliq_engine.specs.Steps.{Reads, SameQubits, zeros, Simulates, Output}
 use Rattle.sliq_engine.specs.Sim.{input_for, sim_output, Sims}
 use Rattle.sliq_engine.specs.Prob.{IsHeavy, prob_output, Weighs}
 use Rattle.sliq_engine.specs.Demo.{demo_output, Demonstrates}

@@ -1,5 +1,5 @@
 -- How `eq` ends, exit by exit, and that it has one end.
-use Rattle.std.proofs.Common.{◌≡◌, ◌⊎◌, inl, inr, ◌↔◌, ℕ, zero, suc, ◌*◌, ◌<◌, ◌≤◌, List, Option, Result, Ok, Err, All, refl, sym, ◌∙◌, ap, ap₂, subst, arith}
+use Rattle.std.proofs.Common.{◌≡◌, inl, inr, ◌↔◌, ℕ, zero, suc, ◌*◌, ◌<◌, ◌≤◌, List, Option, Result, Ok, Err, All, refl, sym, ◌∙◌, ap, ap₂, subst, arith}
 use Rattle.std.specs.List.{range_with_len}
 use Rattle.std.proofs.lemmas.Bool.{cases_lt}
 use Rattle.ring_omega.specs.declared.quad.Quad.{Quad}

@@ -19,3 +19,4 @@ mod SummaryLemmas
 mod DemoLemmas
 mod EnoughNodes
 mod Completeness
+mod TextLemmas

@@ -1,5 +1,5 @@
 //! Laws of the top call's definitions. Each call does nothing: its contract is the law.
-ghost use Rattle.std.specs.Prelude.{◌≡◌, ◌↔◌, ◌≤◌, ◌∷◌, [], List, ℕ, ◌+◌, ◌*◌, ◌^◌, Bool, length, codes, Result, Ok, Err, Option, Some, IsSome};
+ghost use Rattle.std.specs.Prelude.{◌≡◌, ◌⊎◌, ◌↔◌, ◌≤◌, ◌∷◌, [], List, ℕ, ◌+◌, ◌*◌, ◌^◌, Bool, length, codes, Result, Ok, Err, Option, Some, IsSome};
 ghost use Rattle.gate_set.specs.Circuits.{Circuit};
 ghost use Rattle.circuit_model.specs.Working.{work, AllFit};
 ghost use Rattle.comparison.specs.Products.{AllStepsFit};
@@ -14,7 +14,7 @@ ghost use Rattle.outside.specs.Memory.{Shelved, text_of, memory};
 ghost use Rattle.phases.specs.Phases.{Agree, HasOneEnd, HasSomeEnd};
 ghost use Rattle.sliq_words.specs.Asked.{Request, asked_of};
 ghost use Rattle.sliq_engine.specs.Comes.{CarriesOut, Comes};
-ghost use Rattle.sliq_engine.specs.Laws.{ComesTo, IsNoFault, IsSure, NeverLacksNodes, TellsFirst};
+ghost use Rattle.sliq_engine.specs.Laws.{ComesTo, HasTexts, IsNoFault, IsSure, NeverLacksNodes, TellsFirst};
 ghost use Rattle.sliq_engine.specs.Steps.{Output, zeros};
 ghost use Rattle.sliq_engine.specs.Sim.{input_for, sim_output, Sims};
 ghost use Rattle.sliq_engine.specs.Prob.{IsHeavy, prob_output, Weighs};
@@ -40,6 +40,15 @@ pub fn one_run()
     ensures { (words : List (List ℕ)) (old new other : Shelved) → ((asked : Request) → asked_of words ≡ Some asked → AllByRecursion (λ name. IsSome (text_of old name)) asked.files)
         → Agree IsSure (Comes memory words old new) (Comes memory words old other) }
 {}
+
+/// Where a shelf in memory has texts for all files of the words, none too long, a run on it comes to what the command that is asked for comes to on these
+/// texts, or to a fault of the shelf. So what the laws below say of a command on texts, they say of whole runs.
+pub fn run_on_texts()
+    ensures { (words : List (List ℕ)) (asked : Request) (texts : List (List ℕ)) (old new : Shelved) → asked_of words ≡ Some asked → HasTexts old asked.files texts
+        → (end : Result Output Cause) → Comes memory words old new end → CarriesOut asked.task asked.rules texts end ⊎ (end ≡ Err Cause.ReadFault) }
+{
+    let _ = Cause::ReadFault;
+}
 
 /// Enough nodes are always enough: where W bits a coefficient and N nodes are allowed, and N is (64·(W + 2) + 130)·2^n or more, no run on a text that reads as a
 /// circuit on n qubits ends for want of nodes. `eq` wants as many for twice the qubits, since its diagrams have two variables for each.

@@ -19,8 +19,8 @@ mod top;
 
 pub use cause::{Cause, Ended};
 pub use laws::{
-    complete, demo_is_never_refused, enough_nodes, eq_exactly, one_end, one_run, small_outputs,
-    some_end,
+    complete, demo_is_never_refused, enough_nodes, eq_exactly, one_end, one_run, run_on_texts,
+    small_outputs, some_end,
 };
 pub use top::{end, run};
 

@@ -1,5 +1,5 @@
 -- A gate that fits is accepted, or needs too many nodes.
-use Rattle.std.proofs.Common.{◌≡◌, ◌⊎◌, ℕ, suc, ◌+◌, ◌≤◌, Bool, List, [], ◌∷◌, ◌++◌, length, sym, ◌∙◌, ap, subst, arith}
+use Rattle.std.proofs.Common.{◌≡◌, ◌⊎◌, ℕ, suc, ◌≤◌, Bool, List, [], ◌∷◌, ◌++◌, length, sym, ◌∙◌, ap, subst, arith}
 use Rattle.ring_omega.specs.declared.quad.Quad.{Quad}
 use Rattle.bit_lists.specs.Orders.{AreVars}
 use Rattle.gate_set.specs.declared.gate.Gate.{Gate}

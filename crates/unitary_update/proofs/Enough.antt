@@ -1,5 +1,5 @@
 -- How many nodes are always enough for a step.
-use Rattle.std.proofs.Common.{◌≡◌, ℕ, ◌+◌, ◌*◌, ◌^◌, ◌≤◌, List, length}
+use Rattle.std.proofs.Common.{◌≡◌, ◌+◌, ◌*◌, ◌^◌, ◌≤◌, length}
 use Rattle.gate_set.specs.Shape.{IsOn}
 use Rattle.comparison.specs.Products.{Step, gate_of, by_position, work_matrix}
 use Rattle.comparison.specs.Products.Step.{left, right}

@@ -1,5 +1,5 @@
 -- What keeps a matrix, at its start and from step to step, and what is read of it.
-use Rattle.std.proofs.Common.{◌≡◌, ℕ, suc, ◌+◌, ◌*◌, ◌<◌, ◌≤◌, Bool, cond, List, [], ◌∷◌, ◌++◌, take, drop, length, All, refl, sym, ◌∙◌, ap, subst, arith}
+use Rattle.std.proofs.Common.{◌≡◌, ℕ, ◌+◌, ◌*◌, ◌<◌, ◌≤◌, Bool, cond, List, [], ◌∷◌, ◌++◌, take, drop, length, All, sym, ◌∙◌, ap, subst, arith}
 use Rattle.std.proofs.Math.Path.{ap₂}
 use Rattle.std.specs.List.{range_with_len}
 use Rattle.std.proofs.lemmas.List.FromFn.{length-range_with_len}
@@ -8,14 +8,13 @@ use Rattle.ring_omega.specs.Ring.{zero_quad, one_quad}
 use Rattle.gate_set.specs.Matrix.{half_power_of}
 use Rattle.gate_set.specs.declared.gate.Gate.{Gate}
 use Rattle.gate_set.specs.Shape.{IsOn}
-use Rattle.circuit_model.specs.Product.{same_bits}
 use Rattle.circuit_model.specs.Working.{Scaled}
 use Rattle.circuit_model.specs.Working as circuits
 use Rattle.comparison.specs.Scalars.{scalar_entry}
-use Rattle.comparison.specs.Products.{Step, gate_of, times_step, right_product, joined, by_position, raw_matrix, step_matrix, work_matrix, RawStepFits}
+use Rattle.comparison.specs.Products.{Step, gate_of, times_step, right_product, by_position, raw_matrix, step_matrix, work_matrix, RawStepFits}
 use Rattle.comparison.specs.Products.Step.{left, right}
 use Rattle.comparison.proofs.Working.{work_matrix-last}
-use Rattle.diagram_model.specs.Functions.{Assignment, bit}
+use Rattle.diagram_model.specs.Functions.{bit}
 use Rattle.diagram_model.specs.Stores.{Diagram, IsSound, function_of}
 use Rattle.diagram_ops.specs.Diagrams.{StoreAndCache, IsConsistent}
 use Rattle.amp_dense.specs.Rules.{Settings, AreRules}
@@ -26,7 +25,7 @@ use Rattle.slice_quad.specs.declared.stop.QuadStop.{QuadStop}
 use Rattle.slice_quad.specs.declared.stop.QuadStop.TheVariants as quads
 use Rattle.slice_quad.specs.Identities.{IsIdentity}
 use Rattle.slice_quad.specs.Mix.{Vector}
-use Rattle.slice_quad.specs.RowsColumns.{row_equals_column, KeepsRowEqualsColumn}
+use Rattle.slice_quad.specs.RowsColumns.{KeepsRowEqualsColumn}
 use Rattle.slice_quad.specs.Settled.{IsSettled}
 use Rattle.slice_quad.specs.Stepping.{stepped, half_of, IsStepOn}
 use Rattle.slice_quad.specs.Stops.{OnWidth}

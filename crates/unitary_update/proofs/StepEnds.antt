@@ -1,11 +1,8 @@
 -- A step after which the matrix fits is accepted, or needs too many nodes.
-use Rattle.std.proofs.Common.{◌≡◌, ◌⊎◌, ℕ, zero, suc, ◌+◌, ◌*◌, ◌<◌, ◌≤◌, Bool, List, [], ◌∷◌, ◌++◌, All, length, take, drop, refl, sym, ◌∙◌, ap, subst, arith, length-append}
+use Rattle.std.proofs.Common.{◌≡◌, ◌⊎◌, ℕ, zero, suc, ◌+◌, ◌*◌, ◌≤◌, Bool, List, [], ◌∷◌, ◌++◌, length, take, drop, refl, sym, ◌∙◌, ap, subst, arith, length-append}
 use Rattle.std.proofs.Math.Path.{ap₂}
-use Rattle.ring_omega.specs.declared.quad.Quad.{Quad}
-use Rattle.ring_omega.specs.Ring.{one_quad}
 use Rattle.bit_lists.specs.Lists.{all_lists, place_of, bits_at, with_bits}
 use Rattle.bit_lists.specs.Orders.{AreVars}
-use Rattle.gate_set.specs.declared.gate.Gate.{Gate}
 use Rattle.gate_set.specs.Matrix.{entry_of, times_entry}
 use Rattle.gate_set.specs.Shape.{IsOn}
 use Rattle.circuit_model.specs.Product.{same_bits}
@@ -22,12 +19,11 @@ use Rattle.diagram_model.specs.Functions.{Assignment, Function, bit}
 use Rattle.diagram_model.specs.Size.{size}
 use Rattle.diagram_ops.specs.Made.{IsPrefixOfSome}
 use Rattle.node_reclaim.proofs.Bound.{size-le}
-use Rattle.slice_quad.specs.Mix.{Vector}
 use Rattle.slice_quad.specs.RowsColumns.{row_equals_column}
 use Rattle.slice_quad.specs.Stepping.{stepped, work_functions}
 use Rattle.slice_gates.specs.declared.side.Side.TheVariants.{Rows, Columns}
 use Rattle.slice_gates.specs.Shown.{at_lists, first_values, ReadsBelow}
-use Rattle.slice_gates.specs.Sides.{place_on, woven}
+use Rattle.slice_gates.specs.Sides.{woven}
 use Rattle.slice_gates.proofs.Agreeing.{length-first_values, at_list, stepped-reads}
 use Rattle.slice_gates.proofs.Doubles.{doubled_quad, times_power-two}
 use Rattle.slice_gates.proofs.Matrices.{left_stepped, right_stepped}

@@ -1,10 +1,9 @@
 -- What contracts see of a matrix that is kept as integers over decision diagrams, how it goes on, step by step, and how they keep it.
-use Rattle.std.specs.Prelude.{◌≡◌, ◌≤◌, ◌<◌, ℕ, ◌+◌, ◌*◌, List, [], ◌∷◌, ◌++◌, length, All}
+use Rattle.std.specs.Prelude.{◌≡◌, ◌≤◌, ◌<◌, ℕ, ◌+◌, ◌*◌, List, [], ◌∷◌, ◌++◌, length}
 use Rattle.std.specs.List.{range_with_len}
-use Rattle.gate_set.specs.Shape.{IsOn}
 use Rattle.circuit_model.specs.Working.{Scaled}
 use Rattle.comparison.specs.Scalars.{Matrix}
-use Rattle.comparison.specs.Products.{Step, gate_of, by_position, work_matrix, RawStepFits}
+use Rattle.comparison.specs.Products.{Step, by_position, work_matrix, RawStepFits}
 use Rattle.comparison.specs.Products.Step.{left, right}
 use Rattle.amp_dense.specs.declared.stop.Stop.{Stop}
 use Rattle.amp_dense.specs.declared.stop.Stop.TheVariants.{Width, Nodes, OutOfMemory}

@@ -1,7 +1,6 @@
-use Rattle.std.proofs.Common.{rules, ◌≡◌, ◌+◌, ◌*◌, ℕ, List, length, sym, ◌∙◌, ap, subst, arith, refl}
+use Rattle.std.proofs.Common.{rules, ◌+◌, length, subst, arith}
 use Rattle.circuit_model.specs.Working.{FitsWidth}
 use Rattle.comparison.specs.Products.{Step, raw_matrix}
-use Rattle.diagram_ops.specs.Diagrams.{IsConsistent}
 use Rattle.slice_quad.specs.declared.kind.Step.{Step as SlicedStep}
 use Rattle.slice_quad.specs.Stepping.{IsWork}
 use Rattle.slice_quad.specs.Stops.{OnWidth}

@@ -1,4 +1,4 @@
-use Rattle.std.proofs.Common.{rules, ◌≡◌, ◌<◌, ◌*◌, ◌∙◌, ap, subst, length, List, Bool, arith, false, replicate}
+use Rattle.std.proofs.Common.{rules, ◌≡◌, ◌<◌, ◌*◌, ◌∙◌, ap, subst, length, List, Bool, false}
 use Rattle.std.proofs.lemmas.List.{length-replicate}
 use Rattle.unitary_update.proofs.Woven.{AreWoven, woven_none, woven_next, woven_all}
 use Rattle.unitary_update.proofs.weaving.interleaved.Goals as goal

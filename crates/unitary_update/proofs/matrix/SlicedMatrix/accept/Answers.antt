@@ -1,11 +1,9 @@
-use Rattle.std.proofs.Common.{rules, ◌≡◌, ◌+◌, ◌*◌, ◌<◌, ◌≤◌, ◌∷◌, ◌++◌, [], ℕ, List, length, map, refl, ap, sym, ◌∙◌, subst, arith}
+use Rattle.std.proofs.Common.{◌≡◌, ◌+◌, ◌*◌, ◌<◌, ◌≤◌, ◌∷◌, ◌++◌, [], ℕ, List, length, map, refl, ap, sym, ◌∙◌, subst, arith}
 use Rattle.std.proofs.lemmas.List.{map_push}
 use Rattle.gate_set.specs.Shape.{IsOn}
 use Rattle.circuit_model.specs.Working.{FitsWidth}
 use Rattle.comparison.specs.Products.{Step, gate_of, raw_matrix, work_matrix, RawStepFits}
 use Rattle.diagram_model.specs.Stores.{Diagram}
-use Rattle.slice_quad.specs.declared.quad.SliceQuad.{SliceQuad}
-use Rattle.slice_quad.specs.RowsColumns.{KeepsRowEqualsColumn}
 use Rattle.slice_quad.specs.Stops.{OnWidth}
 use Rattle.step_upkeep.specs.Upkept as quads
 use Rattle.step_upkeep.specs.Upkept.{work_in}

@@ -1,4 +1,4 @@
-use Rattle.std.proofs.Common.{◌≡◌, ◌++◌, ap, sym, ◌∙◌, length, map, arith}
+use Rattle.std.proofs.Common.{◌++◌, ap, sym, ◌∙◌, map, arith}
 use Rattle.comparison.specs.Products.{work_matrix}
 use Rattle.unitary_update.specs.Kept.{State, step_in}
 use Rattle.unitary_update.proofs.MatrixLemmas.{state_with, entry_is, woven_long}

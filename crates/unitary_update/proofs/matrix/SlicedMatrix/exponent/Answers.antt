@@ -1,4 +1,4 @@
-use Rattle.std.proofs.Common.{◌≡◌, ap, sym, ◌∙◌}
+use Rattle.std.proofs.Common.{ap, sym, ◌∙◌}
 use Rattle.comparison.specs.Products.{work_matrix}
 use Rattle.unitary_update.specs.Kept.{State}
 use Rattle.unitary_update.proofs.matrix.SlicedMatrix.exponent.Goals as goal

@@ -1,4 +1,4 @@
-use Rattle.std.proofs.Common.{rules, ◌≡◌, ◌<◌, ◌≤◌, ◌*◌, ◌∙◌, ap, sym, length, subst, map, refl, arith}
+use Rattle.std.proofs.Common.{◌≡◌, ◌<◌, ◌≤◌, ◌*◌, ◌∙◌, ap, subst, map, refl}
 use Rattle.amp_dense.specs.Rules.{Settings}
 use Rattle.diagram_model.specs.Stores.{Diagram}
 use Rattle.slice_quad.specs.Started.{StartStopIs}

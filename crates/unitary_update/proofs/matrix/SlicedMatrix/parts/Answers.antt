@@ -1,4 +1,4 @@
-use Rattle.std.proofs.Common.{◌*◌, length, subst}
+use Rattle.std.proofs.Common.{◌*◌, subst}
 use Rattle.unitary_update.specs.Kept.{IsKept}
 use Rattle.unitary_update.proofs.MatrixLemmas.{size_of_order}
 use Rattle.unitary_update.proofs.matrix.SlicedMatrix.parts.Goals as goal
