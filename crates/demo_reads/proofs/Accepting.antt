@@ -1,5 +1,5 @@
 -- Each statement of the text of `demo` is accepted.
-use Rattle.std.proofs.Common.{◌≡◌, ◌≢◌, ℕ, suc, ◌+◌, ◌<◌, ◌≤◌, Bool, true, false, not, nat_eq, nat_le, List, [], ◌∷◌, ◌++◌, map, length, codes, decimal, Option, Some, None, refl, sym, ◌∙◌, ap, subst, arith, rules, is_some, length-append, flat_map, All}
+use Rattle.std.proofs.Common.{◌≡◌, ◌≢◌, ℕ, suc, ◌+◌, ◌<◌, ◌≤◌, Bool, true, false, not, nat_eq, nat_le, List, [], ◌∷◌, ◌++◌, map, get_or, length, codes, decimal, Option, Some, None, refl, sym, ◌∙◌, ap, subst, arith, rules, is_some, length-append, flat_map, All}
 use Rattle.std.specs.Prelude.{◌||◌}
 use Rattle.std.specs.List.{AllByRecursion, list_any}
 use Rattle.std.proofs.lemmas.Bool.{false≢true}
@@ -17,7 +17,7 @@ use Rattle.qasm_reader.specs.declared.reason.Why.{Why}
 use Rattle.qasm_reader.specs.declared.reason.Why.TheVariants.{BadByte, NoVersion, NotAStatement, OutOfProfile, UnknownName, Redeclared, UnknownRegister, IndexOutOfRange, WrongCount, SizesDiffer, RepeatedQubit, AngleRefused, OffGrid, Measured, TooManyQubits, TooManyGates}
 use Rattle.qasm_reader.specs.Profile.{leaves}
 use Rattle.qasm_reader.specs.Parts.{Has}
-use Rattle.qasm_reader.specs.Acts.{Act, Register, Target, registers, measured, gates, qubit_count, targets, with_first, wholes, first_or_one, qubits_at, up_to, placed, product}
+use Rattle.qasm_reader.specs.Acts.{Act, Register, Target, registers, measured, gates, qubit_count, targets, wholes, qubits_at, up_to, placed, product}
 use Rattle.qasm_reader.specs.Calls.{Named, gate, builtin, one, Gives, plain, AreValues, Does}
 use Rattle.qasm_reader.specs.Reasons.{out_of_profile, unknown_name, redeclared, unknown_register, out_of_range, wrong_count, AreUnequal, DifferInSize, Repeats, Meets, AtSomePlace, FirstRefused, angles_of, IsOffGrid, called_in, Holds, IsFree, is_beyond, is_unknown, miscounts}
 use Rattle.qasm_reader.specs.Reading.{Accepts, AllAccepted}
@@ -26,6 +26,7 @@ use Rattle.qasm_reader.proofs.Applied.{placed_all}
 use Rattle.qasm_reader.proofs.Deciding.{pairs_none, different}
 use Rattle.qasm_reader.proofs.Good.{has_one}
 use Rattle.qasm_reader.proofs.Growing.{qubit_count_more, registers_more, gates_more, measured_more}
+use Rattle.qasm_reader.proofs.Looking.{and_first}
 use Rattle.qasm_reader.proofs.OneReading.{does_one}
 use Rattle.demo_text.specs.Generator.{Call}
 use Rattle.demo_reads.specs.Drawn.{kind_in, gate_of}
@@ -104,7 +105,7 @@ targets_are : (q : ℕ) (is : List ℕ) → AllByRecursion (λ i. read_decimal (
 targets_are q [] h = refl
 targets_are q (i ∷ is) h =
     let same : 0 + read_decimal (decimal i) ≡ i = omega (arith, h.0) in
-    ap (λ k. with_first (Some (spot k)) (targets (one_register q) (map place_argument is))) same ∙ ap (λ ts. with_first (Some (spot i)) ts) (targets_are q is h.1)
+    ap (λ k. and_first (Some (spot k)) (targets (one_register q) (map place_argument is))) same ∙ ap (λ ts. and_first (Some (spot i)) ts) (targets_are q is h.1)
 
 wholes_none : (is : List ℕ) → wholes (map spot is) ≡ []
 wholes_none [] = refl
@@ -172,7 +173,7 @@ one_gate kind on = record { kind = kind; on = on }
 -- at one place a call makes one gate
 product_is : (kind : Kind) (on : List ℕ) → length on ≡ arity_of kind → product (one kind ∷ []) (map spot on) ≡ one_gate kind on ∷ []
 product_is kind on count =
-    ap (λ w. gates_at (up_to (first_or_one w))) (wholes_none on) ∙ ap (λ qs. map (placed qs) (one kind ∷ [])) (qubits_are 0 on) ∙ placed_all kind 1 on count
+    ap (λ w. gates_at (up_to (get_or w 0 1))) (wholes_none on) ∙ ap (λ qs. map (placed qs) (one kind ∷ [])) (qubits_are 0 on) ∙ placed_all kind 1 on count
   where
     gates_at : List ℕ → List GateOf
     gates_at all = flat_map (λ place. map (placed (qubits_at (map spot on) place)) (one kind ∷ [])) all

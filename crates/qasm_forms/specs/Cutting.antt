@@ -1,6 +1,7 @@
 -- Words of the calls on lexemes: their front, and what stands before and after a separator.
 use Prim.Native.Char.{code}
 use Rattle.std.specs.Prelude.{ℕ, Bool, true, false, cond, List, [], ◌∷◌, Option, Some, None, option_copied}
+use Rattle.std.specs.Option.{option_map_or}
 use Rattle.std.specs.Borrow.{Bor}
 use Rattle.qasm_lex.specs.Lexemes.{Lexeme, word, arrow}
 use Rattle.qasm_forms.specs.declared.lexemes.Stop.{Stop}
@@ -16,15 +17,14 @@ abbrev pub is_nothing : List Lexeme → Bool
 is_nothing [] = true
 is_nothing (l ∷ ls) = false
 
--- whether the first lexeme is a word that is left out
-abbrev pub begins_left : (List ℕ → Bool) → List Lexeme → Bool
-begins_left leaves (word bytes ∷ ls) = leaves bytes
-begins_left leaves _ = false
-
 -- the word that is first
 abbrev pub word_at : List Lexeme → Option (List ℕ)
 word_at (word bytes ∷ ls) = Some bytes
 word_at _ = None
+
+-- whether it is one that is left out
+abbrev pub begins_left : (List ℕ → Bool) → List Lexeme → Bool
+begins_left leaves ls = option_map_or leaves (word_at ls) false
 
 -- what separates lexemes
 abbrev pub is_stop : Stop → Lexeme → Bool

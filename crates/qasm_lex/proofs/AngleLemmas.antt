@@ -1,5 +1,5 @@
 -- The answer to symbols, and the tokens of a text as places of it.
-use Rattle.std.proofs.Common.{◌≡◌, ◌∙◌, sym, ap, refl, ◌≤◌, ◌<◌, ℕ, ◌-◌, List, [], ◌∷◌, length, drop, Option, Some, None, Result, Ok, Err, IfSome, All, arith, subst, length-drop}
+use Rattle.std.proofs.Common.{◌≡◌, sym, refl, ◌≤◌, ◌<◌, ℕ, ◌-◌, List, [], ◌∷◌, length, drop, Option, Some, None, Result, Ok, Err, IfSome, All, arith, subst, length-drop}
 use Rattle.std.specs.List.{filter_map}
 use Rattle.std.proofs.lemmas.List.{length-take-le}
 use Rattle.std.proofs.lemmas.List.Elements.{All-nil, All-cons}
@@ -10,7 +10,6 @@ use Rattle.qasm_lex.specs.declared.symbol.Symbol.{Symbol}
 use Rattle.qasm_lex.specs.declared.refusal.AngleRefusal.{AngleRefusal}
 use Rattle.qasm_lex.specs.declared.refusal.AngleRefusal.TheVariants.{TooLong, Malformed}
 use Rattle.qasm_lex.specs.Lexemes.{Piece, IsPiece, Cut, token_of, AreTokens, IsWithin}
-use Rattle.qasm_lex.specs.Fractions.{Ratio}
 use Rattle.qasm_lex.specs.Expressions.{Tree, Formed, spelling, eval}
 use Rattle.qasm_lex.specs.Values.{Outcome, values}
 use Rattle.qasm_lex.specs.Angles.{IsExpression, IsShape, too_long, malformed, expression, value_in, IsAnswer}

@@ -12,10 +12,9 @@ use Rattle.gate_set.proofs.MatrixLemmas.{arity_of-few}
 use Rattle.qasm_lex.specs.Lexemes.{Lexeme}
 use Rattle.qasm_forms.specs.Statements.{Argument}
 use Rattle.qasm_reader.specs.declared.registers.Miss.{Miss}
-use Rattle.qasm_reader.specs.declared.registers.Miss.TheVariants.{Unknown, Beyond}
 use Rattle.qasm_reader.specs.declared.reason.Why.{Why}
 use Rattle.qasm_reader.specs.declared.reason.Why.TheVariants.{UnknownRegister, SizesDiffer, RepeatedQubit, Measured, TooManyGates}
-use Rattle.qasm_reader.specs.Acts.{Target, target, targets, wholes, place_count, qubit_at, qubits_at, product}
+use Rattle.qasm_reader.specs.Acts.{Register, Target, target, targets, wholes, place_count, qubit_at, qubits_at, product}
 use Rattle.qasm_reader.specs.Calls.{Named, gate, turn, arity, angle_count, one}
 use Rattle.qasm_reader.specs.Reasons.{is_unknown, is_beyond, miscounts}
 use Rattle.qasm_reader.specs.Private.Scope.{Taken, found_as, find, both_found, differ, repeats, touches, items_of, bodies, counted, outcome_on}
@@ -56,10 +55,28 @@ module _ (called : Named) (n k : ℕ) where
         angles = eqb-true k (angle_count called) p.1;
       }
 
-pub gate_goes : (d : Draft) (called : Named) (n : ℕ) (t : Taken) (all : List Argument) → list_any (is_unknown d.registers true) all ≡ false → list_any (is_beyond d.registers) all ≡ false
-    → miscounts (Some called) (length all) n ≡ false → (ts : List Target) → targets d.registers all ≡ Some ts → gate_on d called n t all ≡ applied d t ts
-gate_goes d called n t all known within counts ts e =
-    cond-false _ _ _ known ∙ cond-false _ _ _ within ∙ cond-false _ _ _ counts ∙ ap (λ x. option_map_or (applied d t) x (Err UnknownRegister)) e
+pub few_arguments : (called : Named) (n : ℕ) → n ≡ arity called → n ≤ 3
+few_arguments called n e = let f = arity_few called in omega arith
+
+-- what is known of a call of which nothing misses, with as many arguments and angles as its gate has
+pub record Looked (d : Draft) (called : Named) (n : ℕ) (all : List Argument) (ts : List Target) : Type 0 where
+  pub known : list_any (is_unknown d.registers true) all ≡ false
+  pub within : list_any (is_beyond d.registers) all ≡ false
+  pub counts : CountsRight called (length all) n
+  pub are : targets d.registers all ≡ Some ts
+
+pub looked : (d : Draft) (called : Named) (n : ℕ) (all : List Argument) (ts : List Target) (r : List (List ℕ × Register)) → r ≡ d.registers → (u b right : Bool) (count k : ℕ)
+    → u ≡ list_any (is_unknown r true) all → (u ≡ false → b ≡ list_any (is_beyond r) all) → count ≡ min (length all) 4 → (u ≡ false → b ≡ false → length all ≤ 3 → targets r all ≡ Some ts)
+    → k ≡ min n 2 → right ≡ nat_eq count (arity called) && nat_eq k (angle_count called) → u ≡ false → b ≡ false → right ≡ true → Looked d called n all ts
+looked d called n all ts r regs u b right count k unknown beyond counted means angles tested fu fb fr =
+    let counts = counts_right called (length all) n
+    (sym (tested ∙ ap (λ x. nat_eq x (arity called) && nat_eq k (angle_count called)) counted ∙ ap (λ x. nat_eq (min (length all) 4) (arity called) && nat_eq x (angle_count called)) angles) ∙ fr) in
+    record {
+      known = ap (λ r. list_any (is_unknown r true) all) (sym regs) ∙ sym unknown ∙ fu;
+      within = ap (λ r. list_any (is_beyond r) all) (sym regs) ∙ sym (beyond fu) ∙ fb;
+      counts = counts;
+      are = ap (λ r. targets r all) (sym regs) ∙ means fu fb (few_arguments called (length all) counts.arguments);
+    }
 
 -- a call on its targets
 abbrev pub finished : Draft → List Target → Result (Kind × ℕ) Why → Result Draft Why
@@ -80,9 +97,16 @@ counted_finished : (d : Draft) (ts : List Target) (body : Result (Kind × ℕ) W
 counted_finished d ts (Err w) = refl
 counted_finished d ts (Ok p) = finished_cond d ts (touches d.measured ts) Measured (cond (nat_lt 1000000 (length d.gates + p.1 * place_count ts)) (Err TooManyGates) (Ok p)) _ (finished_few d ts p)
 
-pub outcome_applied : (d : Draft) (t : Taken) (ts : List Target) (body : Result (Kind × ℕ) Why) → bodies body ≡ bodied t → finished d ts (outcome_on body ts d.measured (length d.gates)) ≡ applied d t ts
+outcome_applied : (d : Draft) (t : Taken) (ts : List Target) (body : Result (Kind × ℕ) Why) → bodies body ≡ bodied t → finished d ts (outcome_on body ts d.measured (length d.gates)) ≡ applied d t ts
 outcome_applied d t ts body e =
     finished_cond d ts (differ (wholes ts)) SizesDiffer _ _ (finished_cond d ts (repeats ts) RepeatedQubit _ _ (counted_finished d ts body ∙ ap (counted_on d ts) e))
+
+-- what comes of a call
+pub comes_to : (d : Draft) (called : Named) (n : ℕ) (t : Taken) (all : List Argument) (ts : List Target) (body : Result (Kind × ℕ) Why) → Looked d called n all ts → bodies body ≡ bodied t
+    → finished d ts (outcome_on body ts d.measured (length d.gates)) ≡ gate_on d called n t all
+comes_to d called n t all ts body l e =
+    outcome_applied d t ts body e
+    ∙ sym (cond-false _ _ _ l.known ∙ cond-false _ _ _ l.within ∙ cond-false _ _ _ l.counts.test ∙ ap (λ x. option_map_or (applied d t) x (Err UnknownRegister)) l.are)
 
 -- what passes the tests of a call
 pub record Passes (body : Result (Kind × ℕ) Why) (ts : List Target) (p : Kind × ℕ) : Type 0 where
@@ -105,12 +129,11 @@ arity_is (Ok x) p n e h = let q : x ≡ p = cc in subst (λ (y : Kind × ℕ). a
 arity_is (Err w) p n e h = absurd cc
 
 -- the gates of a call that goes on may be applied
-pub placed_call : (d : Draft) → IsDraft d → (called : Named) (all : List Argument) (ts : List Target) (body : Result (Kind × ℕ) Why) (flags : List Bool) (gates : ℕ) (p : Kind × ℕ)
-    → list_any (is_unknown d.registers true) all ≡ false → list_any (is_beyond d.registers) all ≡ false → targets d.registers all ≡ Some ts → length all ≡ arity called
-    → IfOk body (λ q. arity_of q.0 ≡ arity called) → outcome_on body ts flags gates ≡ Ok p → (place : ℕ) → place < place_count ts → IsPlaced p.0 (qubits_at ts place)
-placed_call d i called all ts body flags gates p u b m c a e place h =
+pub placed_call : (d : Draft) → IsDraft d → (called : Named) (n : ℕ) (all : List Argument) (ts : List Target) (body : Result (Kind × ℕ) Why) (flags : List Bool) (gates : ℕ) (p : Kind × ℕ)
+    → Looked d called n all ts → IfOk body (λ q. arity_of q.0 ≡ arity called) → outcome_on body ts flags gates ≡ Ok p → (place : ℕ) → place < place_count ts → IsPlaced p.0 (qubits_at ts place)
+placed_call d i called n all ts body flags gates p l a e place h =
     let s = body_passes body ts flags gates p e in
-    (placed_on d.qubits d.registers i.few_qubits i.registers_end all ts p.0 place u b m (c ∙ sym (arity_is body p (arity called) s.does a)) s.alike s.once h).placed
+    (placed_on d.qubits d.registers i.few_qubits i.registers_end all ts p.0 place l.known l.within l.are (l.counts.arguments ∙ sym (arity_is body p (arity called) s.does a)) s.alike s.once h).placed
 
 -- the first of two that are found
 pub first_found : (u b : Bool) (x : Option Target) (r : Result Target Miss) (p : Target × Target) → both_found (found_as u b x) r ≡ Ok p → (u ≡ false) × (b ≡ false) × (x ≡ Some p.0)
@@ -133,6 +156,3 @@ pub one_listed : (called : Named) (angles : List (List Lexeme)) (first : Option 
 one_listed called [] first e l = ap option_to_list e
 one_listed called (a ∷ []) first e l = ap option_to_list e
 one_listed called (a ∷ b ∷ more) first e l = absurd (let f = angles_few called in omega arith)
-
-pub few_arguments : (called : Named) (n : ℕ) → n ≡ arity called → n ≤ 3
-few_arguments called n e = let f = arity_few called in omega arith

@@ -13,7 +13,7 @@ use Rattle.qasm_forms.proofs.Exact.{statements_same}
 use Rattle.qasm_reader.specs.declared.registers.Miss.{Miss}
 use Rattle.qasm_reader.specs.declared.reason.Why.{Why}
 use Rattle.qasm_reader.specs.declared.reason.Why.TheVariants.{UnknownRegister, Redeclared, IndexOutOfRange, WrongCount, SizesDiffer, RepeatedQubit, Measured, TooManyQubits, TooManyGates}
-use Rattle.qasm_reader.specs.Acts.{Act, Target, Item, nothing, declares, measures, applies, register, registers, index_of, target, targets, wholes, place_count, qubits_of, product, measured}
+use Rattle.qasm_reader.specs.Acts.{Act, Target, Item, nothing, declares, measures, applies, registers, target, targets, wholes, place_count, qubits_of, product, measured}
 use Rattle.qasm_reader.specs.Profile.{leaves}
 use Rattle.qasm_reader.specs.Calls.{Named, builtin, arity, angle_count, listed, Does}
 use Rattle.qasm_reader.specs.Parts.{Part, Has}

@@ -11,7 +11,7 @@ use Rattle.qasm_lex.specs.Lexemes.{Lexeme, word}
 use Rattle.qasm_forms.specs.Statements.{Statement, version, is_mark, first_word, written_rest, written}
 use Rattle.qasm_forms.specs.declared.lexemes.Stop.TheVariants.{Semicolon}
 use Rattle.qasm_forms.specs.Cutting.{is_nothing, is_stop, has_stop, before_stop, after_stop}
-use Rattle.qasm_reader.specs.Acts.{Act, circuit_of}
+use Rattle.qasm_reader.specs.Acts.{Act}
 use Rattle.qasm_reader.specs.Parts.{Part, last_part, cut, parts_of}
 use Rattle.qasm_reader.specs.Reasons.{Refuses}
 use Rattle.qasm_reader.specs.Reading.{Accepts, AllAccepted, circuit, refusal, IsRefused, Reads, IfRefused}

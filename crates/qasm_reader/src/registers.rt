@@ -1,10 +1,10 @@
 //! Registers by name, in the order of their declarations, and what arguments mean.
-ghost use Rattle.std.specs.Prelude.{◌≡◌, ◌++◌, ◌∷◌, [], not, true, IfOk, option_map};
+ghost use Rattle.std.specs.Prelude.{◌≡◌, ◌++◌, ◌∷◌, [], not, true, false, Some, IfOk, option_map};
 ghost use Rattle.qasm_forms.specs.Cutting.{seen_bytes};
-ghost use Rattle.qasm_reader.specs.Acts.{register, index_of};
-ghost use Rattle.qasm_reader.specs.Reasons.{is_declared};
+ghost use Rattle.qasm_reader.specs.Acts.{register, index_of, place_in};
+ghost use Rattle.qasm_reader.specs.Reasons.{is_declared, reaches};
 ghost use Rattle.qasm_reader.specs.Private.Seen.{seen_register, seen_find};
-ghost use Rattle.qasm_reader.specs.Private.Scope.{find, placed_at, why_missed};
+ghost use Rattle.qasm_reader.specs.Private.Scope.{found_as, find, why_missed};
 
 use crate::hashing::KeyedNames;
 use crate::reason::Why;
@@ -53,7 +53,7 @@ impl Miss {
 impl Register {
     /// The place of an index, or all places.
     fn place(self, index: Option<&[u8]>) -> Result<Target, Miss>
-        ensures { seen_find result ≡ placed_at (seen_register self) (index_of (seen_bytes index.entry)) }
+        ensures { seen_find result ≡ found_as false (reaches (Some (seen_register self)) (index_of (seen_bytes index.entry))) (Some (place_in (seen_register self) (index_of (seen_bytes index.entry)))) }
     {
         match index {
             None => Ok(Target {

@@ -5,7 +5,6 @@ use Rattle.std.specs.Option.{option_map_or}
 use Rattle.std.specs.Str.{bytes_eq}
 use Rattle.gate_set.specs.declared.gate.Gate.{Gate}
 use Rattle.gate_set.specs.Shape.{IsOn}
-use Rattle.gate_set.specs.Circuits.{Circuit}
 use Rattle.qasm_lex.specs.Lexemes.{Lexeme}
 use Rattle.qasm_lex.specs.Symbols.{decimal}
 use Rattle.qasm_forms.specs.Statements.{Statement, version, include, qubits, bits, barrier, measure, call, left_out, Argument, ended}

@@ -12,9 +12,9 @@ use Rattle.qasm_reader.specs.declared.registers.Miss.TheVariants.{Unknown, Beyon
 use Rattle.qasm_reader.specs.declared.calls.Found.{Found as CodeFound}
 use Rattle.qasm_reader.specs.declared.reason.Why.{Why}
 use Rattle.qasm_reader.specs.declared.reason.Why.TheVariants.{UnknownRegister, IndexOutOfRange, SizesDiffer, RepeatedQubit, Measured, TooManyGates}
-use Rattle.qasm_reader.specs.Acts.{Register, Target, Item, place_in, target, wholes, place_count, qubits_at, up_to, is_among}
+use Rattle.qasm_reader.specs.Acts.{Register, Target, Item, target, wholes, place_count, qubits_at, up_to, is_among}
 use Rattle.qasm_reader.specs.Calls.{Named, Gives, AreValues, one}
-use Rattle.qasm_reader.specs.Reasons.{reaches, is_unknown, is_beyond, FirstRefused}
+use Rattle.qasm_reader.specs.Reasons.{is_unknown, is_beyond, FirstRefused}
 use Rattle.qasm_reader.specs.Private.Seen.{seen_targets}
 
 -- what the angles of a call come to: the gates of the call, none, or a refusal
@@ -26,10 +26,7 @@ Yields named angles (Ok (Some items)) = (called : Named) × (values : List Ratio
 Yields named angles (Ok None) = (values : List Ratio) × AreValues angles values × ((called : Named) (items : List Item) → named ≡ Some called → Gives called values items → ⊥)
 Yields named angles (Err e) = FirstRefused angles e
 
-abbrev pub placed_at : Register → Option ℕ → Result Target Miss
-placed_at r index = cond (reaches (Some r) index) (Err Beyond) (Ok (place_in r index))
-
--- a target, where it is neither unknown nor beyond
+-- the target of an argument whose register is known and whose index isn't beyond it
 abbrev pub found_as : Bool → Bool → Option Target → Result Target Miss
 found_as unknown beyond t = cond unknown (Err Unknown) (cond beyond (Err Beyond) (ok_or t Unknown))
 
@@ -63,9 +60,9 @@ abbrev pub next_count : ℕ → ℕ
 next_count n = cond (nat_lt n 4) (n + 1) n
 
 abbrev pub noted : Found → Result Target Miss → Found
-noted f (Ok t) = record { targets = cond (nat_lt (length f.targets) 3) (f.targets ++ t ∷ []) f.targets; count = next_count f.count; unknown = f.unknown; beyond = f.beyond }
-noted f (Err Unknown) = record { targets = f.targets; count = next_count f.count; unknown = true; beyond = f.beyond }
-noted f (Err Beyond) = record { targets = f.targets; count = next_count f.count; unknown = f.unknown; beyond = true }
+noted f (Ok t) = record f { targets = cond (nat_lt (length f.targets) 3) (f.targets ++ t ∷ []) f.targets; count = next_count f.count }
+noted f (Err Unknown) = record f { count = next_count f.count; unknown = true }
+noted f (Err Beyond) = record f { count = next_count f.count; beyond = true }
 
 abbrev pub other_than : ℕ → ℕ → Bool
 other_than n m = not (nat_eq m n)

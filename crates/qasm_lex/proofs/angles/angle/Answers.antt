@@ -1,4 +1,4 @@
-use Rattle.std.proofs.Common.{◌≡◌, sym, subst, rules, arith, length}
+use Rattle.std.proofs.Common.{◌≡◌, sym, subst, rules, arith}
 use Rattle.std.proofs.lemmas.List.{length-map}
 use Rattle.qasm_lex.specs.Lexemes.{lexeme_of, lexemes_of}
 use Rattle.qasm_lex.specs.Symbols.{symbol_of, symbols}
