@@ -1,5 +1,5 @@
 //! All nodes of the upper variable that have a child of the lower one.
-ghost use Rattle.std.specs.Prelude.{◌≡◌, ℕ, ◌+◌, ◌*◌, ◌<◌, ◌≤◌, true, false, length, slice_index, IfOk, OnOk, OnErr};
+ghost use Rattle.std.specs.Prelude.{◌≡◌, ◌+◌, ◌*◌, ◌<◌, ◌≤◌, true, false, length, IfOk, OnOk, OnErr};
 ghost use Rattle.bit_lists.specs.Orders.{exchanged};
 ghost use Rattle.diagram_model.specs.Stores.{held, IsSound, KeepsFunctions};
 ghost use Rattle.node_store.specs.Slots.{IsSlotted, nodes_of, spare_of};
