@@ -77,7 +77,7 @@ going_high n v k x r s t h is_low is none =
     let on : bit t (length r) ≡ true = here r t true is in
     let off : bit s (length r) ≡ false = here r s false is_low in
     let zeros : (y : List Bool) → length y ≡ n → Shares (length r) y r → bit y (length r) ≡ false → v y ≡ zero_quad = λ y wide shares low. none y wide (λ i lt.
-        shares_more y s (length r) (λ j less. shares j less ∙ sym (alike r s false is_low j less)) (low ∙ sym off) i (omega arith)) in
+    shares_more y s (length r) (λ j less. shares j less ∙ sym (alike r s false is_low j less)) (low ∙ sym off) i (omega arith)) in
     record {
       further = omega arith;
       shares = λ i lt. alike r t true is i (omega arith) ∙ h.shares i lt;
@@ -222,7 +222,7 @@ rising_low n v r s t h is_high is none =
     let on : bit s (length r) ≡ true = here r s true is_high in
     let off : bit t (length r) ≡ false = here r t false is in
     let zeros : (y : List Bool) → length y ≡ n → Shares (length r) y r → bit y (length r) ≡ true → v y ≡ zero_quad = λ y wide shares high. none y wide (λ i lt.
-        shares_more y s (length r) (λ j less. shares j less ∙ sym (alike r s true is_high j less)) (high ∙ sym on) i (omega arith)) in
+    shares_more y s (length r) (λ j less. shares j less ∙ sym (alike r s true is_high j less)) (high ∙ sym on) i (omega arith)) in
     record {
       some = record {
         at = w.at;

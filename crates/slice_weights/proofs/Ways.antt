@@ -221,8 +221,7 @@ true_below s c (v ∷ vs) n vars proper unique ground live ne x long =
         let z = set x v b in
         let wide : length z ≡ length x = length-set x v b in
         let r = below z (λ w h. (let lt = long w (has-head v w vs h) in omega (arith, lt, wide))) in
-        let here : bit r.0 v ≡ b = r.2 v vars.1 ∙ set_at x v b inside in
-        (
+        let here : bit r.0 v ≡ b = r.2 v vars.1 ∙ set_at x v b inside in (
           r.0,
           r.1 ∙ wide,
           (λ w none. r.2 w (has_not-parts v w vs none).1 ∙ get_or-set_other x v w b false (λ e. (has_not-parts v w vs none).0 (sym e))),
@@ -269,8 +268,8 @@ some_below d s f m k x t sound natural long within row some =
     let live = row.from some.at some.within in
     let vars : AreVars (length d.order) (drop k d.order) = vars_drop (length d.order) d.order k sound.diagram.order in
     let r = true_below d.slots (length d.order) (drop k d.order) n vars
-        (proper_drop d.slots (length d.order) d.order k sound.diagram.order sound.diagram.proper) sound.diagram.unique sound.diagram.ground live some.is pad
-        (λ v h. (let b = below-order (length d.order) d.order v sound.diagram.order (has-drop d.order k v h) in omega (arith, b, wide))) in
+    (proper_drop d.slots (length d.order) d.order k sound.diagram.order sound.diagram.proper) sound.diagram.unique sound.diagram.ground live some.is pad
+    (λ v h. (let b = below-order (length d.order) d.order v sound.diagram.order (has-drop d.order k v h) in omega (arith, b, wide))) in
     let shares : Shares k r.0 x = λ i lt. r.2 i (not_below d k i sound natural lt within) ∙ get_or_append_left x (replicate (length d.order - k) false) false i (omega (arith, lt, long)) in
     record {
       at = r.0;

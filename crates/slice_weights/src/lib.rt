@@ -17,6 +17,8 @@ mod summing;
 mod tests;
 mod tuple;
 mod walk;
+#[cfg(test)]
+mod walk_tests;
 mod weighing;
 
 pub use counting::count_nonzero;

@@ -42,11 +42,7 @@ impl Walk {
     /// The next basis state whose entry isn't zero, with its entry; None where there is none. The order of variables is the natural one.
     ///
     /// Only the rows of nodes below the first qubit that changes are written: on dense vectors some two for each basis state.
-    pub fn advance(
-        &mut self,
-        d: &Diagrams,
-        of: &Four,
-    ) -> Result<Option<(Bits, Quad)>, OutOfMemory>
+    pub fn advance(&mut self, d: &Diagrams, of: &Four) -> Result<Option<(Bits, Quad)>, OutOfMemory>
         requires natural { d.now.store.order ≡ range_with_len 0 (length d.now.store.order) }
         requires walk { IsWalk d.now.store of.now self.old }
         ensures found { IfOk result (λ next. IfSome next (λ e. IsNextNonzero (length d.now.store.order) (entries_in d.now.store of.now) self.old.last e.0)) }
@@ -149,11 +145,7 @@ fn descend(store: &Store, of: &Four, path: &mut Path) -> Result<(), OutOfMemory>
 /// The last basis state whose entry isn't zero; None where there is none. The order of variables is the natural one.
 ///
 /// Asks one row of nodes for each qubit, or two.
-pub fn last_nonzero(
-    alloc: Global,
-    d: &Diagrams,
-    q: &SliceQuad,
-) -> Result<Option<Bits>, OutOfMemory>
+pub fn last_nonzero(alloc: Global, d: &Diagrams, q: &SliceQuad) -> Result<Option<Bits>, OutOfMemory>
     requires natural { d.now.store.order ≡ range_with_len 0 (length d.now.store.order) }
     requires stands { Stands d.now.store q.now }
     ensures found { IfOk result (λ last. IfSome last (IsLastNonzero (length d.now.store.order) (entries_in d.now.store q.now.four))) }

@@ -18,4 +18,4 @@ pub returns-clause-found : goal.returns-clause-found
 returns-clause-found c =
     let d = c.args.store.now in
     λ _. next_turn (length d.order) (entries_in d c.args.of.now) c.args.path.now.at c.turn.new.path.at c.descend.new.path.at (length c.turn.new.path.at) c.requires.end
-        (c.in_ok-turn.ensures.turn c.if-not-branch.false) refl c.in_ok-descend.ensures.least
+    (c.in_ok-turn.ensures.turn c.if-not-branch.false) refl c.in_ok-descend.ensures.least
