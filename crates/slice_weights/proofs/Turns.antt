@@ -1,13 +1,13 @@
 -- The next basis state whose entry isn't zero: back to a turn, and from there down to the first one.
-use Rattle.std.proofs.Common.{◌≡◌, ◌≢◌, ◌⊎◌, inl, inr, ℕ, zero, suc, ◌+◌, ◌<◌, ◌≤◌, Bool, true, false, List, [], ◌∷◌, ◌++◌, length, length-append, take, set, Option, Some, None, refl, sym, ◌∙◌, ap, subst, arith}
+use Rattle.std.proofs.Common.{◌≡◌, ◌≢◌, ◌⊎◌, inl, inr, ℕ, zero, suc, ◌+◌, ◌<◌, ◌≤◌, Bool, true, false, List, [], ◌∷◌, ◌++◌, length, length-append, take, set, Some, refl, sym, ◌∙◌, ap, subst, arith}
 use Rattle.std.proofs.Math.Path.{ap₂}
 use Rattle.std.proofs.lemmas.Bool.{cases_Bool, false≢true}
-use Rattle.std.proofs.lemmas.List.{get_or_append_left, get_or-take, length-set}
+use Rattle.std.proofs.lemmas.List.{length-set}
 use Rattle.diagram_model.specs.Functions.{bit}
 use Rattle.ring_omega.specs.Ring.{zero_quad}
 use Rattle.amp_dense.specs.Nonzero.{IsLastNonzero}
 use Rattle.slice_quad.specs.Nonzero.{IsNextNonzero}
-use Rattle.slice_quad.specs.Walks.{Entries, Shares, IsNonzeroFrom, AreZeroFrom, IsBeforeAt, IsLeastFrom, AreZeroBeyond, IsBranch}
+use Rattle.slice_quad.specs.Walks.{Entries, Shares, IsNonzeroFrom, AreZeroFrom, IsBeforeAt, IsLeastFrom, AreZeroBeyond}
 use Rattle.slice_quad.proofs.Walking.{shares_more, ext_bits, before_at, next_after, beyond_zero}
 use Rattle.slice_weights.specs.Paths.{IsTurn}
 use Rattle.slice_weights.proofs.Ways.{last_bit, shares_append}

@@ -1,12 +1,12 @@
 -- The nodes that are left on the way down to a basis state.
-use Rattle.std.proofs.Common.{◌≡◌, ◌≢◌, ◌⊎◌, inl, inr, ℕ, zero, suc, ◌+◌, ◌-◌, ◌*◌, ◌/◌, ◌%◌, ◌<◌, ◌≤◌, eqb, eq-eqb, Bool, true, false, List, [], ◌∷◌, ◌++◌, length, length-append, length-drop, map, take, drop, get_or, set, replicate, Option, Some, None, refl, sym, ◌∙◌, ap, subst, arith}
+use Rattle.std.proofs.Common.{◌≡◌, ◌≢◌, inl, inr, ℕ, zero, suc, ◌+◌, ◌-◌, ◌*◌, ◌/◌, ◌%◌, ◌<◌, ◌≤◌, eqb, eq-eqb, Bool, true, false, List, [], ◌∷◌, ◌++◌, length, length-append, length-drop, map, take, drop, get_or, set, replicate, Option, Some, None, refl, sym, ◌∙◌, ap, subst, arith}
 use Rattle.std.proofs.Math.Path.{ap₂}
 use Rattle.std.proofs.Math.Seq.{drop-length}
 use Rattle.std.specs.List.{range_with_len}
 use Rattle.std.proofs.lemmas.Bool.{cases_Bool, cases_eq, false≢true, ne_eqb}
 use Rattle.bit_lists.specs.Lists.{bit_value}
 use Rattle.std.proofs.lemmas.List.{length-map, length-set, length-replicate, get_or-map, get_or_append_left, get_or-set_other, take_all}
-use Rattle.std.proofs.lemmas.List.FromFn.{length-range_with_len, get_or-range_with_len}
+use Rattle.std.proofs.lemmas.List.FromFn.{get_or-range_with_len}
 use Rattle.bit_lists.specs.Orders.{has, AreVars}
 use Rattle.bit_lists.proofs.Variables.{has-head, has-here}
 use Rattle.diagram_model.specs.declared.parts.Parts.{Parts}
@@ -20,7 +20,7 @@ use Rattle.slice_quad.specs.declared.coord.Coord.TheVariants.{A, B, C, D}
 use Rattle.slice_quad.specs.declared.four.Four.{Four}
 use Rattle.slice_quad.specs.Fours.{nodes_of}
 use Rattle.slice_quad.specs.Walks.{entries_in, Shares, IsNonzeroFrom, AreZeroFrom}
-use Rattle.slice_quad.proofs.Walking.{shares_set, set_at}
+use Rattle.slice_quad.proofs.Walking.{set_at}
 use Rattle.slice_weights.specs.declared.places.Places.{Places}
 use Rattle.slice_weights.specs.declared.places.Roots.{Roots}
 use Rattle.slice_weights.specs.Private.{picked, four_at, ArePlaces, ArePlacesIn, AreFrom, IsBitOf, AreRoots, IsReady, IsConstant}

@@ -1,5 +1,4 @@
-use Rattle.std.proofs.Common.{◌≡◌, ℕ, suc, ◌+◌, ◌-◌, ◌<◌, true, false, ◌∷◌, ◌++◌, [], List, Bool, length, length-append, take, ap, sym, subst, ◌∙◌, arith}
-use Rattle.diagram_model.specs.Functions.{bit}
+use Rattle.std.proofs.Common.{◌≡◌, ℕ, suc, ◌+◌, ◌-◌, ◌<◌, true, false, ◌∷◌, ◌++◌, [], length, length-append, take, ap, sym, subst, ◌∙◌, arith}
 use Rattle.slice_quad.specs.Walks.{entries_in, IsNonzeroFrom, AreZeroFrom, AreZeroBeyond}
 use Rattle.slice_quad.proofs.Walking.{beyond_one}
 use Rattle.slice_weights.specs.declared.path.Path.{Path}

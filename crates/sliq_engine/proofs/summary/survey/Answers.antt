@@ -1,4 +1,4 @@
-use Rattle.std.proofs.Common.{◌≡◌, ℕ, None, ap, ◌∙◌}
+use Rattle.std.proofs.Common.{ℕ, None, ap, ◌∙◌}
 use Rattle.amp_dense.specs.Standing.{vector}
 use Rattle.sliq_engine.specs.Listing.{has_no_entry, number_listed}
 use Rattle.sliq_engine.proofs.FoundLemmas.{found_state}

@@ -1,11 +1,10 @@
-use Rattle.std.proofs.Common.{◌≡◌, ℕ, List, Bool, true, false, Option, None, Some, length, ap, sym, subst, ◌∙◌}
+use Rattle.std.proofs.Common.{◌≡◌, List, Bool, true, false, Option, None, Some, length, ap, sym, subst, ◌∙◌}
 use Rattle.std.proofs.lemmas.Bool.{false≢true}
 use Rattle.diagram_model.specs.Stores.{Diagram}
 use Rattle.slice_quad.specs.declared.four.Four.{Four}
 use Rattle.slice_quad.specs.Nonzero.{NoneAfter}
 use Rattle.slice_quad.specs.Walks.{entries_in}
 use Rattle.slice_weights.specs.declared.walk.Walk.{Walk}
-use Rattle.slice_weights.specs.Paths.{IsWalk}
 use Rattle.slice_weights.proofs.walk.Walk.advance.Goals as goal
 use Rattle.slice_weights.proofs.walk.Walk.advance.Goals.{in-None+in_ok-found-in-None, in-Some+in_ok-found-in-Some}
 

@@ -1,4 +1,4 @@
-use Rattle.std.proofs.Common.{◌≡◌, ℕ, ap, sym, ◌∙◌, length, arith}
+use Rattle.std.proofs.Common.{◌≡◌, ap, ◌∙◌, length, arith}
 use Rattle.circuit_model.specs.Working.{work}
 use Rattle.amp_dense.specs.Nonzero.{number_nonzero}
 use Rattle.slice_quad.specs.Walks.{entries_in}

@@ -1,4 +1,4 @@
-use Rattle.std.proofs.Common.{◌≡◌, ap, sym, ◌∙◌, length, None, subst}
+use Rattle.std.proofs.Common.{ap, sym, ◌∙◌, length, None, subst}
 use Rattle.std.specs.List.{range_with_len}
 use Rattle.circuit_model.specs.Working.{work}
 use Rattle.amp_dense.specs.Nonzero as amplitudes
