@@ -10,14 +10,14 @@ use ring_omega::Quad;
 use std::alloc::Global;
 use std::process::Abort;
 
-const ONE: Quad = Quad {
+pub(crate) const ONE: Quad = Quad {
     a: 0,
     b: 0,
     c: 0,
     d: 1,
 };
 
-const KINDS: [Kind; 18] = [
+pub(crate) const KINDS: [Kind; 18] = [
     Kind::H,
     Kind::T,
     Kind::RxP,
@@ -99,7 +99,7 @@ pub(crate) fn fresh(rt: &impl Abort, alloc: Global, qubits: u8, rules: &Rules) -
 }
 
 /// The gate on the first of three qubits, as many as its kind asks for.
-fn placed(alloc: Global, kind: Kind, a: u8, b: u8, c: u8) -> Gate
+pub(crate) fn placed(alloc: Global, kind: Kind, a: u8, b: u8, c: u8) -> Gate
     requires a { a < 64 }
     requires b { b < 64 }
     requires c { c < 64 }
@@ -128,7 +128,7 @@ pub(crate) fn single(alloc: Global, kind: Kind, q: u8) -> Gate
 }
 
 /// Applies a gate. The answer is where the width was refused, or 0.
-fn refused_at<A: Amplitudes>(alloc: Global, state: &mut A, gate: &Gate) -> u32
+pub(crate) fn refused_at<A: Amplitudes>(alloc: Global, state: &mut A, gate: &Gate) -> u32
     requires { IsOn (length (A.standing state.old).input) gate.now }
     ensures { (A.standing state.new).input ≡ (A.standing state.old).input }
 {
