@@ -9,6 +9,8 @@ pub use laws::{each_gate_has_an_end, enough_nodes};
 pub use sliced::SlicedState;
 
 #[cfg(test)]
+mod limit_tests;
+#[cfg(test)]
 mod tests;
 #[cfg(test)]
 mod weighing_tests;
