@@ -10,6 +10,7 @@ pub use sliced::SlicedState;
 
 #[cfg(test)]
 mod long_tests;
+mod limit_tests;
 #[cfg(test)]
 mod tests;
 #[cfg(test)]
