@@ -9,8 +9,9 @@ pub use laws::{each_gate_has_an_end, enough_nodes};
 pub use sliced::SlicedState;
 
 #[cfg(test)]
-mod long_tests;
 mod limit_tests;
+#[cfg(test)]
+mod long_tests;
 #[cfg(test)]
 mod tests;
 #[cfg(test)]
