@@ -1,0 +1,4 @@
+pub mod PlaceLemmas
+pub mod Levels
+pub mod Keeps
+pub mod Reached
