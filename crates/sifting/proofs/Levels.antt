@@ -55,9 +55,9 @@ unfolding size node_count
 level_first s k v vs ns vars proper unique h =
     let whole : level_size k v (map (denoted s (v ∷ vs)) ns) + size k vs (fix_both v (map (denoted s (v ∷ vs)) ns)) ≡ distinct_count eqb (filter (has_var s v) ns) + node_count s vs (follow_both s v ns) = size_is s k (v ∷ vs) ns vars proper unique h in
     let rest : size k vs (fix_both v (map (denoted s (v ∷ vs)) ns)) ≡ node_count s vs (follow_both s v ns) =
-        ap (size k vs) (fixed_functions s v vs ns vars.1) ∙ size_is s k vs (follow_both s v ns) vars.2 (proper-tail s v vs vars.1 proper) unique (follow_each s v vs ns proper h) in
+    ap (size k vs) (fixed_functions s v vs ns vars.1) ∙ size_is s k vs (follow_both s v ns) vars.2 (proper-tail s v vs vars.1 proper) unique (follow_each s v vs ns proper h) in
     plus_right (level_size k v (map (denoted s (v ∷ vs)) ns)) (distinct_count eqb (filter (has_var s v) ns)) (node_count s vs (follow_both s v ns))
-        (ap (λ n. level_size k v (map (denoted s (v ∷ vs)) ns) + n) (sym rest) ∙ whole)
+    (ap (λ n. level_size k v (map (denoted s (v ∷ vs)) ns) + n) (sym rest) ∙ whole)
 
 -- the level at a place counts the different nodes of its variable that are left there
 pub level_nodes_met : (s : List (Option Parts)) (k : ℕ) (vs ns : List ℕ) (i : ℕ) → i < length vs → AreVars k vs → AreProper s vs → AreUnique s → Each (IsLiveIn s vs) ns → level k vs (map (denoted s vs) ns) i ≡ distinct_count eqb (filter (has_var s (slice_index vs i)) (followed s i vs ns))
@@ -145,7 +145,7 @@ level_of_reached s k vs ns xs i lt d live distinct sound whole =
     let same : (q : ℕ) → is_in xs q ≡ is_in ys q = λ q. both_ways (is_in xs q) (is_in ys q)
     (λ h. let a = sound q h in met_at s k vs ns i q a.1.0 lt d.order (reached_met s k vs ns d q a.0 a.1.0 a.1.1) a.1.1 a.1.2)
     (λ h. let b = of_has_var (parts_of s q) (slice_index vs i) (in_filter (has_var s (slice_index vs i)) (followed s i vs ns) q h).1 in
-        whole q b.0 (met_reached s ns vs ns (λ n is. root n is) q (at_met s vs ns i q lt h)) b.1 b.2) in
+    whole q b.0 (met_reached s ns vs ns (λ n is. root n is) q (at_met s vs ns i q lt h)) b.1 b.2) in
     length-from_keys nat_eq_equiv xs ys distinct same ∙ sym (level_nodes_met s k vs ns i lt d.order d.proper d.unique live)
 
 -- the numbers of the nodes of a variable, the first slot of which is k

@@ -2,3 +2,4 @@ pub mod PlaceLemmas
 pub mod Levels
 pub mod Keeps
 pub mod Reached
+pub mod Turns
