@@ -1,0 +1,5 @@
+pub mod PlaceLemmas
+pub mod Levels
+pub mod Keeps
+pub mod Reached
+pub mod Turns

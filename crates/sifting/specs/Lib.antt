@@ -1,0 +1,4 @@
+pub mod Places
+pub mod Sifts
+pub mod Private
+pub mod Answers

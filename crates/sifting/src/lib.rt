@@ -1,0 +1,17 @@
+//! Moves variables to the places of the order where the diagrams of given roots are least.
+#![tactic(auto)]
+
+mod all;
+mod back;
+mod laws;
+mod least;
+mod shifts;
+mod sift;
+mod ways;
+
+pub use all::sift_all;
+pub use laws::sifted_places_are_unique;
+pub use sift::{Sifted, sift_variable};
+
+#[cfg(test)]
+mod tests;
