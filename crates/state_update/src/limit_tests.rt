@@ -328,7 +328,10 @@ fn expect_accepted_or_not(
     ensures sliced { length both.new.sliced.input ≡ qubits }
     ensures dense { length both.new.dense.input ≡ qubits }
 {
-    assert_eq!(rt; applied(rt, alloc, &mut both.sliced, gate).is_ok(), accepted);
+    assert_eq!(rt;
+        applied(rt, alloc, &mut both.sliced, gate).is_ok(),
+        accepted
+    );
     if accepted {
         assert!(rt; applied(rt, alloc, &mut both.dense, gate).is_ok());
     }
