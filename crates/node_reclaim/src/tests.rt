@@ -69,8 +69,34 @@ fn to_one_root(
 }
 
 /// Reclaims to the constants: all three nodes go.
-fn to_constants(rt: &impl Abort, alloc: Global, d: &mut Diagrams) -> Result<(), OutOfMemory> {
+fn to_constants(rt: &impl Abort, alloc: Global, d: &mut Diagrams) -> Result<(), OutOfMemory>
+    ensures { d.new.store.order ≡ d.old.store.order }
+{
     let freed = reclaim(alloc, d, &[FALSE, TRUE])?;
+    assert_eq!(rt; (freed, d.store().held()), (3, 0));
+    Ok(())
+}
+
+/// Reclaims to all three: none goes.
+fn to_all(
+    rt: &impl Abort,
+    alloc: Global,
+    d: &mut Diagrams,
+    three: &Three,
+) -> Result<(), OutOfMemory>
+    requires first { IsLive d.old.store three.now.first.0 }
+    requires second { IsLive d.old.store three.now.second.0 }
+    requires both { IsLive d.old.store three.now.both.0 }
+    ensures { d.new.store.order ≡ d.old.store.order }
+{
+    let freed = reclaim(alloc, d, &[three.first, three.second, three.both])?;
+    assert_eq!(rt; (freed, d.store().held(), d.cached()), (0, 3, 0));
+    Ok(())
+}
+
+/// Reclaims to no root at all: all three go.
+fn to_none(rt: &impl Abort, alloc: Global, d: &mut Diagrams) -> Result<(), StoreStop> {
+    let freed = reclaim(alloc, d, &[])?;
     assert_eq!(rt; (freed, d.store().held()), (3, 0));
     Ok(())
 }
@@ -88,8 +114,10 @@ fn one_root<L: Ledger>(
     to_one_root(rt, alloc, d, first.both)?;
     let next = made(d, steps)?;
     assert!(rt; next.both == first.both && is_both(d, next.both));
+    to_all(rt, alloc, d, &next)?;
     to_constants(rt, alloc, d)?;
-    Ok(())
+    made(d, steps)?;
+    to_none(rt, alloc, d)
 }
 
 fn counted<L: Ledger>(rt: &impl Abort, alloc: Global, blank: Blank) -> Result<(), StoreStop>
