@@ -5,7 +5,7 @@ use crate::{Cause, demo_is_never_refused};
 use bit_lists::OutOfMemory;
 
 const SUMMARY_OF_64: &[u8] =
-    b"qubits 64\ngates 204\nexponent 4\nstates 16\nfirst |0000000100000100000001011011001001011010110111110000000100010000> (0,1,0,0)/sqrt2^4\nlast |0010000100000100010001011011001001011010110101110000011100010100> (1,0,0,0)/sqrt2^4\n";
+    b"qubits 64\ngates 2004\nexponent 4\nstates 16\nfirst |0000100000010001010111001010011110110101011110011111010000000000> (0,0,0,1)/sqrt2^4\nlast |1111110000010100111110011010000111111101010001001010011001000110> (0,1,0,0)/sqrt2^4\n";
 
 // Summaries that were computed apart from the program. The shelf would fail at its first call.
 #[test]
@@ -93,13 +93,13 @@ fn summaries_of_many_qubits(rt: HostRuntime) -> Result<(), OutOfMemory> {
             &["sliq", "demo", "13", "60", "7"],
             b"qubits 13\ngates 64\nexponent 4\nstates 16\nfirst |0100100001000> (0,0,0,1)/sqrt2^4\nlast |1101100111100> (0,1,0,0)/sqrt2^4\n",
         ),
-        (&["sliq", "demo", "64", "200", "7"], SUMMARY_OF_64),
+        (&["sliq", "demo", "64", "2000", "7"], SUMMARY_OF_64),
         (
             &[
                 "sliq",
                 "demo",
                 "64",
-                "200",
+                "2000",
                 "7",
                 "--reclaim",
                 "1",

@@ -165,17 +165,22 @@ fn ghz_on_64_qubits(rt: HostRuntime) -> Result<(), OutOfMemory> {
     Ok(())
 }
 
-// Pairs of qubits that lie far apart in the order want more than 64 nodes. The step depends on what else is held.
+// Pairs of qubits that lie far apart in the order want more than 2048 nodes. The step depends on what else is held.
 #[test]
 fn a_node_limit(rt: HostRuntime) -> Result<(), OutOfMemory> {
-    let mut text = Vec::from_slice(rt.alloc(), b"OPENQASM 2.0;\nqreg q[14];\nh q;\n")?;
-    for i in 0..7u8 {
-        let line = format!(in rt.alloc(); "cz q[{i}],q[{}];\n", 13 - i)?;
+    let mut text = Vec::from_slice(rt.alloc(), b"OPENQASM 2.0;\nqreg q[24];\nh q;\n")?;
+    for i in 0..12u8 {
+        let line = format!(in rt.alloc(); "cz q[{i}],q[{}];\n", 23 - i)?;
         text.extend_from_slice(line.as_bytes())?;
     }
+    for i in 0..12u8 {
+        let line = format!(in rt.alloc(); "cz q[{}],q[{}];\n", 11 - i, 12 + i)?;
+        text.extend_from_slice(line.as_bytes())?;
+    }
+    text.extend_from_slice(b"h q;\n")?;
     let ran = run_on(
         rt.alloc(),
-        &["sliq", "sim", "a", "--nodes", "64"],
+        &["sliq", "sim", "a", "--nodes", "2048"],
         &text,
         CALM,
     )?;
@@ -183,7 +188,11 @@ fn a_node_limit(rt: HostRuntime) -> Result<(), OutOfMemory> {
     assert_eq!(rt; ran.out.written(), b"".as_slice());
     let lines = ran.err.written();
     assert!(rt; lines.starts_with(b"sliq: node limit at step "));
-    assert!(rt; lines.ends_with(b", held 64, order 0 1 2 3 4 5 6 7 8 9 10 11 12 13\n"));
+    assert!(rt;
+        lines.ends_with(
+            b", held 2048, order 0 1 2 3 4 5 6 7 8 9 10 11 12 13 14 15 16 17 18 19 20 21 22 23\n"
+        )
+    );
     let ran = run_on(
         rt.alloc(),
         &["sliq", "sim", "a", "--nodes", "16384", "--width", "8"],
