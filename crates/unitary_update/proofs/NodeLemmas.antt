@@ -12,7 +12,8 @@ use Rattle.node_reclaim.proofs.Bound.{size-le, one_some}
 use Rattle.slice_quad.specs.declared.four.Four.{Four}
 use Rattle.slice_quad.specs.Mix.{Vector}
 use Rattle.slice_quad.specs.RowsColumns.{row_equals_column}
-use Rattle.slice_quad.specs.Stepping.{work_functions}
+use Rattle.node_reclaim.specs.Reclaims.{HoldsOnly}
+use Rattle.slice_quad.specs.Stepping.{IsWork, work_functions}
 use Rattle.slice_quad.specs.Vectors.{vector_in}
 use Rattle.slice_gates.specs.Shown.{at_lists, first_values, ReadsBelow, IsMatrixShown}
 use Rattle.slice_gates.specs.Sides.{woven}
@@ -21,7 +22,7 @@ use Rattle.step_upkeep.specs.Stored.{stored_functions}
 use Rattle.step_upkeep.specs.Upkept.{work_in}
 use Rattle.step_upkeep.proofs.Stored.{stored_held}
 use Rattle.step_upkeep.proofs.Widths.{work_within}
-use Rattle.unitary_update.specs.Kept.{State, IsKept, standing_of, sliced_step, by_variables, work_of, stored_of, needed, IsStored}
+use Rattle.unitary_update.specs.Kept.{State, IsKept, standing_of, sliced_step, by_variables, work_of, InWork, stored_of, needed, IsStored}
 use Rattle.unitary_update.proofs.MatrixLemmas.{size_of_order}
 
 -- ---- the matrix over the variables
@@ -77,6 +78,10 @@ module _ (s : State) (h : IsKept s) where
   work_wider t p x =
       work_within d.order p (length s.quad.four.a) s.rules.width h.narrow (row_equals_column s.qubits) (sliced_step s.qubits t) (by_variables s.qubits (by_position (work_matrix s.qubits s.steps).entries))
       (subst (λ (fs : List Function). IsPrefixOfSome d.order fs p) (list_is t) x)
+
+  -- what holds only those of the integers holds only those of the step
+  pub holds_work : (t : Step) (e : Diagram) → HoldsOnly e (IsWork d (sliced_step s.qubits t) s.quad) → HoldsOnly e (InWork (standing_of s) t)
+  holds_work t e all n p at = work_wider t (function_of e n) (all n p at)
 
   -- where those of the integers need as many nodes as the limit, those of the step do
   pub step_needs : (t : Step) → d.limit ≤ size (length d.order) d.order (work_in d (sliced_step s.qubits t) s.quad) → s.rules.nodes ≤ needed (standing_of s) (work_of (standing_of s) t)

@@ -12,6 +12,7 @@ use Rattle.diagram_model.specs.Functions.{Function}
 use Rattle.diagram_model.specs.Size.{size}
 use Rattle.diagram_model.specs.Stores.{Diagram}
 use Rattle.diagram_ops.specs.Diagrams.{StoreAndCache, IsConsistent}
+use Rattle.diagram_ops.specs.Made.{Property, IsPrefixOfSome}
 use Rattle.slice_quad.specs.declared.kind.Step.{Step as SlicedStep}
 use Rattle.slice_quad.specs.declared.quad.SliceQuad.{SliceQuad}
 use Rattle.slice_quad.specs.Mix.{Vector}
@@ -64,6 +65,10 @@ by_variables n m x = m (first_values n (λ q. x (place_on Rows q))) (first_value
 -- adds no function.
 unfoldable pub work_of : Standing → Step → List Function
 work_of s t = work_functions s.rules.width (row_equals_column s.qubits) (sliced_step s.qubits t) (by_variables s.qubits (by_position (work_matrix s.qubits s.steps).entries))
+
+-- a function that arises from one of those, by fixing a prefix of the order in force
+abbrev pub InWork : Standing → Step → Property
+InWork s t = IsPrefixOfSome s.order (work_of s t)
 
 -- the functions that the matrix is stored by
 unfoldable pub stored_of : Standing → List Function

@@ -1,5 +1,5 @@
 //! A matrix as integers over decision diagrams.
-ghost use Rattle.std.specs.Prelude.{◌≡◌, ◌*◌, ◌<◌, ◌≤◌, ◌++◌, length, IfOk, IfErr, OnOk, OnErr};
+ghost use Rattle.std.specs.Prelude.{◌≡◌, ◌*◌, ◌<◌, ◌≤◌, ◌++◌, true, length, IfOk, IfErr, OnOk, OnErr};
 
 use crate::accepted::MatrixStep;
 use crate::multiplying::multiply;
@@ -53,7 +53,9 @@ impl SlicedMatrix {
     ghost use Rattle.slice_quad.specs.Vectors.{Stands};
     ghost use Rattle.comparison.specs.Products.{gate_of, work_matrix};
     ghost use Rattle.comparison.specs.Products.Step.{left, right};
-    ghost use Rattle.unitary_update.specs.Kept.{standing_of, step_in, begun, Accepts, StopMeans, StartStopMeans, ShowsMatrix};
+    ghost use Rattle.node_reclaim.specs.Reclaims.{HoldsOnly};
+    ghost use Rattle.step_upkeep.specs.Due.{is_due};
+    ghost use Rattle.unitary_update.specs.Kept.{standing_of, step_in, begun, Accepts, InWork, StopMeans, StartStopMeans, ShowsMatrix};
 
     /// The identity, with no step accepted yet.
     ///
@@ -94,6 +96,7 @@ impl SlicedMatrix {
         ensures accepts { OnOk result (Accepts (standing_of self.old) (left gate.now) (standing_of self.new)) }
         ensures stops { IfErr result (StopMeans (standing_of self.old) (left gate.now)) }
         ensures refused { OnErr result (standing_of self.new ≡ standing_of self.old) }
+        ensures after_reclaim { is_due (standing_of self.old).rules.reclaim (length (standing_of self.old).steps) ≡ true → OnOk result (HoldsOnly self.new.diagrams.store (InWork (standing_of self.old) (left gate.now))) }
     {
         let factor = Gate::new(alloc, gate.kind(), gate.on());
         self.accept(alloc, MatrixStep::Left(factor))
@@ -106,6 +109,7 @@ impl SlicedMatrix {
         ensures accepts { OnOk result (Accepts (standing_of self.old) (right gate.now) (standing_of self.new)) }
         ensures stops { IfErr result (StopMeans (standing_of self.old) (right gate.now)) }
         ensures refused { OnErr result (standing_of self.new ≡ standing_of self.old) }
+        ensures after_reclaim { is_due (standing_of self.old).rules.reclaim (length (standing_of self.old).steps) ≡ true → OnOk result (HoldsOnly self.new.diagrams.store (InWork (standing_of self.old) (right gate.now))) }
     {
         let factor = Gate::new(alloc, gate.kind(), gate.on());
         self.accept(alloc, MatrixStep::Right(factor))
@@ -118,6 +122,7 @@ impl SlicedMatrix {
         ensures accepts { OnOk result (Accepts (standing_of self.old) (step_in factor) (standing_of self.new)) }
         ensures stops { IfErr result (StopMeans (standing_of self.old) (step_in factor)) }
         ensures refused { OnErr result (standing_of self.new ≡ standing_of self.old) }
+        ensures after_reclaim { is_due (standing_of self.old).rules.reclaim (length (standing_of self.old).steps) ≡ true → OnOk result (HoldsOnly self.new.diagrams.store (InWork (standing_of self.old) (step_in factor))) }
     {
         let accepted = self.accepted();
         self.steps.reserve(1)?;

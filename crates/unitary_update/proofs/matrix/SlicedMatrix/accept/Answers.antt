@@ -1,5 +1,8 @@
-use Rattle.std.proofs.Common.{◌≡◌, ◌+◌, ◌*◌, ◌<◌, ◌≤◌, ◌∷◌, ◌++◌, [], ℕ, List, length, map, refl, ap, sym, ◌∙◌, subst, arith}
+use Rattle.std.proofs.Common.{◌≡◌, ◌+◌, ◌*◌, ◌<◌, ◌≤◌, ◌∷◌, ◌++◌, [], ℕ, List, length, map, true, refl, ap, sym, ◌∙◌, subst, arith}
+use Rattle.std.proofs.Math.Path.{ap₂}
 use Rattle.std.proofs.lemmas.List.{map_push}
+use Rattle.node_reclaim.specs.Reclaims.{HoldsOnly}
+use Rattle.step_upkeep.specs.Due.{is_due}
 use Rattle.gate_set.specs.Shape.{IsOn}
 use Rattle.circuit_model.specs.Working.{FitsWidth}
 use Rattle.comparison.specs.Products.{Step, gate_of, raw_matrix, work_matrix, RawStepFits}
@@ -9,9 +12,9 @@ use Rattle.step_upkeep.specs.Upkept as quads
 use Rattle.step_upkeep.specs.Upkept.{work_in}
 use Rattle.slice_quad.specs.Vectors.{Stands}
 use Rattle.unitary_update.specs.declared.accepted.MatrixStep.{MatrixStep}
-use Rattle.unitary_update.specs.Kept.{State, Standing, IsKept, standing_of, with_step, step_in, sliced_step, work_of, needed, IsStored}
+use Rattle.unitary_update.specs.Kept.{State, Standing, IsKept, standing_of, with_step, step_in, sliced_step, work_of, needed, InWork, IsStored}
 use Rattle.unitary_update.proofs.MatrixLemmas.{size_of_order, state_with, kept_next, kept_stop, shows_on, keeps_on, fits_state, state_fits}
-use Rattle.unitary_update.proofs.NodeLemmas.{step_needs, stored_few}
+use Rattle.unitary_update.proofs.NodeLemmas.{holds_work, step_needs, stored_few}
 use Rattle.unitary_update.proofs.matrix.SlicedMatrix.accept.Goals as goal
 
 pub multiply-requires-clause-variables : goal.multiply-requires-clause-variables
@@ -72,6 +75,16 @@ returns-in-Ok-clause-accepts c =
       stored = subst (λ (m : State). IsStored (with_step (standing_of m) t)) c.self.view_is here;
       same = ap standing steps ∙ ap later keeps.order ∙ ap (λ (m : State). with_step (standing_of m) t) c.self.view_is;
     }
+
+pub returns-in-Ok-clause-after_reclaim : goal.returns-in-Ok-clause-after_reclaim
+returns-in-Ok-clause-after_reclaim c due =
+    let s = c.self.inside in let t : Step = step_in c.args.factor in
+    let shown : State = state_with s.qubits s.rules (map step_in s.steps.items) s.diagrams s.quad in
+    let h = c.self.invariant in
+    let v = c.multiply.new.d in
+    let every = c.steps_between-every.ensures ∙ ap (λ (m : State). m.rules.reclaim) c.self.view_is in
+    let here : is_due c.steps_between-every.result c.accepted-accepted.result ≡ true = ap₂ is_due every c.accepted-accepted.ensures.value ∙ due in
+    subst (λ (m : State). HoldsOnly v.store (InWork (standing_of m) t)) c.self.view_is (holds_work shown h t v.store (c.in-Ok.ensures.holds here))
 
 pub invariant_of-self-in-Err-Width : goal.invariant_of-self-in-Err-Width
 invariant_of-self-in-Err-Width c =
