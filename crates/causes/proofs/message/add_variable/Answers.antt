@@ -1,6 +1,6 @@
 use Rattle.std.proofs.Common.{rules, ◌≤◌, decimal, length, arith, length-append}
 use Rattle.std.proofs.lemmas.Fmt.{length-decimal-le}
-use Rattle.sliq_engine.proofs.message.add_variable.Goals as goal
+use Rattle.causes.proofs.message.add_variable.Goals as goal
 
 pub returns-clause-short : goal.returns-clause-short
 returns-clause-short c =

@@ -1,6 +1,6 @@
 use Rattle.std.proofs.Common.{◌≡◌, ◌≤◌, ◌+◌, ◌*◌, ◌++◌, take, length}
-use Rattle.sliq_engine.specs.Status.{order_text}
-use Rattle.sliq_engine.proofs.message.add_order.Given as goal
+use Rattle.causes.specs.Status.{order_text}
+use Rattle.causes.proofs.message.add_order.Given as goal
 
 -- the variables before this place stand behind the line
 abbrev pub invariant-places : goal.invariant-places

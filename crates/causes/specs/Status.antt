@@ -3,9 +3,9 @@ use Rattle.std.specs.Prelude.{◌⊎◌, ℕ, List, [], ◌++◌, codes, flat_ma
 use Rattle.std.specs.Fmt.{decimal}
 use Rattle.outside.specs.Outside.{Rose}
 use Rattle.outside.specs.Bytes.{Added, AddedSome}
-use Rattle.sliq_engine.specs.declared.cause.Cause.{Cause}
-use Rattle.sliq_engine.specs.declared.cause.Cause.TheVariants.{Done, Differs, BadWords, ReadFault, TooLong, Refused, QubitsDiffer, Width, Nodes, WeightTooWide, WriteFault, OutOfMemory}
-use Rattle.sliq_engine.specs.Refusals.{reason_text}
+use Rattle.causes.specs.declared.cause.Cause.{Cause}
+use Rattle.causes.specs.declared.cause.Cause.TheVariants.{Done, Differs, BadWords, ReadFault, TooLong, Refused, QubitsDiffer, Width, Nodes, WeightTooWide, WriteFault, OutOfMemory}
+use Rattle.causes.specs.Refusals.{reason_text}
 
 abbrev pub status_of : Cause → ℕ
 status_of Done = 0

@@ -1,6 +1,6 @@
 use Rattle.std.proofs.Common.{rules, ◌≡◌, ◌<◌, length, arith}
-use Rattle.sliq_engine.proofs.MessageLemmas.{one_variable, all_variables}
-use Rattle.sliq_engine.proofs.message.add_order.Goals as goal
+use Rattle.causes.proofs.MessageLemmas.{one_variable, all_variables}
+use Rattle.causes.proofs.message.add_order.Goals as goal
 
 pub places-preserved : goal.places-preserved
 places-preserved c =

@@ -1,10 +1,10 @@
 //! How a run ends.
 ghost use Rattle.std.specs.Prelude.{◌≡◌};
-ghost use Rattle.sliq_engine.specs.Status.{status_of};
+ghost use Rattle.causes.specs.Status.{status_of};
 
-use crate::output::SendStop;
 use amp_dense::Stop;
 use bit_lists::Order;
+use outputs::SendStop;
 use probabilities::WeighStop;
 use qasm_reader::Refusal;
 
@@ -63,7 +63,7 @@ impl Cause {
 
 impl From<Stop> for Cause {
     ghost use Rattle.std.specs.Prelude.{◌≡◌};
-    ghost use Rattle.sliq_engine.specs.Steps.{cause_of};
+    ghost use Rattle.causes.specs.Stops.{cause_of};
 
     ghost from_gives = { λ stop cause. cause ≡ cause_of stop };
 
@@ -82,7 +82,7 @@ impl From<Stop> for Cause {
 
 impl From<WeighStop> for Cause {
     ghost use Rattle.std.specs.Prelude.{◌≡◌};
-    ghost use Rattle.sliq_engine.specs.Private.{cause_of_weighing};
+    ghost use Rattle.causes.specs.Stops.{cause_of_weighing};
 
     ghost from_gives = { λ stop cause. cause ≡ cause_of_weighing stop };
 
@@ -96,7 +96,7 @@ impl From<WeighStop> for Cause {
 
 impl From<SendStop> for Cause {
     ghost use Rattle.std.specs.Prelude.{◌≡◌};
-    ghost use Rattle.sliq_engine.specs.Private.{cause_of_sending};
+    ghost use Rattle.causes.specs.Stops.{cause_of_sending};
 
     ghost from_gives = { λ stop cause. cause ≡ cause_of_sending stop };
 

@@ -2,8 +2,8 @@
 use Rattle.std.proofs.Common.{◌≡◌, ℕ, ◌+◌, ◌<◌, List, ◌++◌, length, get_or, take, codes, decimal, sym, ◌∙◌, ap}
 use Rattle.std.proofs.Math.Seq.{take-length}
 use Rattle.std.proofs.lemmas.List.{append_assoc}
-use Rattle.sliq_engine.specs.Status.{order_text}
-use Rattle.sliq_engine.proofs.ListingLemmas.{flat_map-take_more}
+use Rattle.causes.specs.Status.{order_text}
+use Rattle.outputs.proofs.ListingLemmas.{flat_map-take_more}
 
 -- one variable more
 pub one_variable : (order : List ℕ) (i v : ℕ) (old line new : List ℕ) → i < length order → v ≡ get_or order i 0 → line ≡ old ++ order_text (take i order)
