@@ -1,5 +1,5 @@
 -- What an event does to a state, and what is told of it.
-use Rattle.std.specs.Prelude.{◌≡◌, ℕ, zero, suc, ◌+◌, ◌*◌, ◌<◌, ◌≤◌, true, false, List, [], ◌∷◌, ◌++◌, length, map, flat_map, Result, Ok, Err}
+use Rattle.std.specs.Prelude.{◌≡◌, ◌⊎◌, ℕ, zero, suc, ◌+◌, ◌*◌, ◌<◌, ◌≤◌, true, false, List, [], ◌∷◌, ◌++◌, length, map, flat_map, Result, Ok, Err}
 use Rattle.bit_lists.specs.Orders.{exchanged}
 use Rattle.gate_set.specs.declared.gate.Gate.{Gate}
 use Rattle.gate_set.specs.Shape.{IsOn}
@@ -116,7 +116,7 @@ with_diagrams s d = record { input = s.input; rules = s.rules; gates = s.gates; 
 -- a gate was accepted
 pub record Steps (old : State) (g : Gate) (new : State) : Type 0 where
   pub accepts : Accepts sliced_policy (standing_of old) g (standing_of new)
-  pub after_reclaim : is_due old.rules.reclaim (length old.gates) ≡ true → HoldsOnly new.diagrams.store (InWork (standing_of old) g)
+  pub after_reclaim : is_due old.rules.reclaim (length old.gates) ≡ true → is_due old.rules.sift (length old.gates) ≡ false → HoldsOnly new.diagrams.store (InWork (standing_of old) g)
 
 -- a gate stopped
 pub record StepStops (old : State) (g : Gate) (stop : Stop) (new : State) : Type 0 where
@@ -137,6 +137,12 @@ EventStops old (events.Gate g) stop new = StepStops old g stop new
 EventStops old e stop new = (new ≡ with_diagrams old new.diagrams) × UpkeepStops old.quad old.diagrams e stop new.diagrams
 
 -- ---- events in turn
+-- the input and the rules stay, and these gates were accepted after those before
+pub record IsAfter (old : State) (gates : List Gate) (new : State) : Type 0 where
+  pub input : new.input ≡ old.input
+  pub rules : new.rules ≡ old.rules
+  pub gates_are : new.gates ≡ old.gates ++ gates
+
 -- the events of a list with their reports, each on the state that the one before left
 abbrev pub Runs : State → List Event → List Report → State → Type 0
 Runs old [] [] new = new ≡ old

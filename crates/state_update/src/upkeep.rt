@@ -6,7 +6,7 @@ ghost use Rattle.gate_set.specs.Shape.{IsOn};
 ghost use Rattle.state_update.specs.declared.events.Event.TheVariants as events;
 ghost use Rattle.state_update.specs.declared.events.Report.TheVariants as reports;
 ghost use Rattle.state_update.specs.Kept.{standing_of};
-ghost use Rattle.state_update.specs.Events.{IsWithin, gate_of, gates_of, Reports, EventStops, Runs, Stops};
+ghost use Rattle.state_update.specs.Events.{IsWithin, gate_of, gates_of, Reports, EventStops, IsAfter, Runs, Stops};
 
 use crate::events::{Event, EventStop, Report};
 use crate::node_upkeep::{forget_cache, reclaim_rest, sift_each, sift_one, swap_places};
@@ -81,6 +81,7 @@ impl SlicedState {
         requires few { length self.old.gates + length (gate_of e.now) ≤ 2000000 }
         ensures done { IfOk result (λ r. Reports self.old e.now r self.new) }
         ensures stopped { IfErr result (λ stop. EventStops self.old e.now stop self.new) }
+        ensures input { self.new.input ≡ self.old.input }
     {
         match e {
             Event::Gate(gate) => self.step(alloc, gate),
@@ -92,15 +93,13 @@ impl SlicedState {
         }
     }
 
-    /// The events of a list in turn, up to the first that stops. Room for the reports is taken first.
-    pub fn run_events(&mut self, alloc: Global, list: &[Event]) -> Result<Vec<Report>, EventStop>
+    /// `run_events`, event by event.
+    fn run_in_turn(&mut self, alloc: Global, list: &[Event]) -> Result<Vec<Report>, EventStop>
         requires count { length list.now < 2 ^ 32 }
         requires within { All (IsWithin (length self.old.input)) list.now }
         requires few { length self.old.gates + length (gates_of list.now) ≤ 2000000 }
         ensures runs { IfOk result (λ rs. Runs self.old list.now rs.items self.new) }
         ensures stops { IfErr result (λ stop. Stops self.old list.now stop self.new) }
-        ensures entries { OnOk result (vector (standing_of self.new) ≡ work (self.old.gates ++ gates_of list.now) self.old.input) }
-        ensures entries_before { IfErr result (λ stop. vector (standing_of self.new) ≡ work (self.old.gates ++ gates_of (take stop.at list.now)) self.old.input) }
     {
         let Ok(mut reports) = Vec::with_capacity(alloc, list.len()) else {
             return Err(EventStop {
@@ -118,5 +117,25 @@ impl SlicedState {
             }
         }
         Ok(reports)
+    }
+
+    /// The events of a list in turn, up to the first that stops, with one report each. Room for the reports is taken first. The entries
+    /// are those of the gates alone.
+    pub fn run_events(&mut self, alloc: Global, list: &[Event]) -> Result<Vec<Report>, EventStop>
+        requires count { length list.now < 2 ^ 32 }
+        requires within { All (IsWithin (length self.old.input)) list.now }
+        requires few { length self.old.gates + length (gates_of list.now) ≤ 2000000 }
+        ensures runs { IfOk result (λ rs. Runs self.old list.now rs.items self.new) }
+        ensures stops { IfErr result (λ stop. Stops self.old list.now stop self.new) }
+
+        // The accepted gates, and the working vector.
+        ensures input { self.new.input ≡ self.old.input }
+        ensures accepted { OnOk result (IsAfter self.old (gates_of list.now) self.new) }
+        ensures accepted_before { IfErr result (λ stop. IsAfter self.old (gates_of (take stop.at list.now)) self.new) }
+        ensures entries { OnOk result (vector (standing_of self.new) ≡ work (self.old.gates ++ gates_of list.now) self.old.input) }
+        ensures entries_before { IfErr result (λ stop. vector (standing_of self.new) ≡ work (self.old.gates ++ gates_of (take stop.at list.now)) self.old.input) }
+    {
+        let answer = self.run_in_turn(alloc, list);
+        answer
     }
 }

@@ -1,7 +1,7 @@
 use Rattle.std.proofs.Common.{◌≤◌, length, take}
 use Rattle.std.specs.Prelude.{vec_capacity}
 use Rattle.state_update.specs.Events.{Runs}
-use Rattle.state_update.proofs.upkeep.SlicedState.run_events.Given as goal
+use Rattle.state_update.proofs.sliced.SlicedState.run_in_turn.Given as goal
 
 -- the events so far ran, and there is room for the report of each
 abbrev pub invariant-events : goal.invariant-events

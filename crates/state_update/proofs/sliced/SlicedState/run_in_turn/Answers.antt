@@ -6,7 +6,7 @@ use Rattle.state_update.specs.declared.events.Event.{Event}
 use Rattle.state_update.specs.Kept.{standing_of}
 use Rattle.state_update.specs.Events.{IsWithin, Runs, gates_of}
 use Rattle.state_update.proofs.RunLemmas.{runs_after, runs_long, runs_on, runs_stop, gates_up_to, vector_after, stop_after, after_then}
-use Rattle.state_update.proofs.upkeep.SlicedState.run_events.Goals as goal
+use Rattle.state_update.proofs.sliced.SlicedState.run_in_turn.Goals as goal
 
 pub events-init : goal.events-init
 events-init c = record { room = c.in-Ok.ensures.capacity; runs = ? }
