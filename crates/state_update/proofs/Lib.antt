@@ -3,6 +3,7 @@ pub mod Enough
 pub mod GateSteps
 pub mod NodeLemmas
 pub mod NodesKept
+pub mod Orders
 pub mod RunLemmas
-pub mod StateLemmas
 pub mod Shown
+pub mod StateLemmas
