@@ -15,11 +15,7 @@ use slice_quad::{SliceQuad, roots};
 use std::alloc::Global;
 
 /// Frees the nodes that are not reached from those of the integers.
-pub(crate) fn reclaim_rest(
-    alloc: Global,
-    d: &mut Diagrams,
-    q: &SliceQuad,
-) -> Result<Report, Stop>
+pub(crate) fn reclaim_rest(alloc: Global, d: &mut Diagrams, q: &SliceQuad) -> Result<Report, Stop>
     requires { Stands d.old.store q.now }
     ensures done { IfOk result (λ r. Upkeeps q.now d.old events.Reclaim r d.new) }
     ensures stopped { IfErr result (λ stop. UpkeepStops q.now d.old events.Reclaim stop d.new) }
@@ -75,11 +71,7 @@ pub(crate) fn sift_one(
 }
 
 /// Moves each variable to its least place, one after the other.
-pub(crate) fn sift_each(
-    alloc: Global,
-    d: &mut Diagrams,
-    q: &SliceQuad,
-) -> Result<Report, Stop>
+pub(crate) fn sift_each(alloc: Global, d: &mut Diagrams, q: &SliceQuad) -> Result<Report, Stop>
     requires { Stands d.old.store q.now }
     ensures done { IfOk result (λ r. Upkeeps q.now d.old events.SiftAll r d.new) }
     ensures stopped { IfErr result (λ stop. UpkeepStops q.now d.old events.SiftAll stop d.new) }
