@@ -22,8 +22,8 @@ pub struct SlicedState {
     input: Bits,
     rules: Rules,
     gates: Vec<Gate>,
-    diagrams: Diagrams,
-    quad: SliceQuad,
+    pub(crate) diagrams: Diagrams,
+    pub(crate) quad: SliceQuad,
 }
 
 impl Model for SlicedState {
