@@ -9,3 +9,5 @@ pub mod Ways
 pub mod Turns
 pub mod CountsAt
 pub mod Counted
+pub mod OnTop
+pub mod Descents

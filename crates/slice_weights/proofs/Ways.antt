@@ -55,7 +55,7 @@ last_place p =
 
 -- ---- rows
 -- a node that is a bit stays one
-half_bit : (d : Diagram) (s : Places) (v : ℕ) (t : List ℕ) (b : Bool) (n : ℕ) → ArePlacesIn (length t) s → IsBitOf (four_at s t) n → IsBitOf (four_at s (half d v t b)) (follow d.slots v b n)
+pub half_bit : (d : Diagram) (s : Places) (v : ℕ) (t : List ℕ) (b : Bool) (n : ℕ) → ArePlacesIn (length t) s → IsBitOf (four_at s t) n → IsBitOf (four_at s (half d v t b)) (follow d.slots v b n)
 half_bit d s v t b n are of = by of.coord of.place of.within of.is
   where
     one : (ps : List ℕ) → ArePlaces (length t) ps → (i : ℕ) → i < length (picked ps t) → n ≡ get_or (picked ps t) i 0 → follow d.slots v b n ≡ get_or (picked ps (half d v t b)) i 0
@@ -117,11 +117,11 @@ top_row d s f m zero x ns rows =
     subst (λ i. IsRow d s f m 0 x (drop i ns)) none rows
 top_row d s f m (suc k) x ns rows = rows.0
 
-drop-front : (ns t : List ℕ) → drop (length ns) (ns ++ t) ≡ t
+pub drop-front : (ns t : List ℕ) → drop (length ns) (ns ++ t) ≡ t
 drop-front [] t = refl
 drop-front (n ∷ ns) t = drop-front ns t
 
-take-front : (ns t : List ℕ) → take (length ns) (ns ++ t) ≡ ns
+pub take-front : (ns t : List ℕ) → take (length ns) (ns ++ t) ≡ ns
 take-front [] t = refl
 take-front (n ∷ ns) t = ap (λ l. n ∷ l) (take-front ns t)
 
@@ -229,7 +229,7 @@ true_below s c (v ∷ vs) n vars proper unique ground live ne x long =
         )
 
 -- the variables above it don't matter
-value_drop : (s : List (Option Parts)) (c : ℕ) (vs : List ℕ) (i n : ℕ) (x : ℕ → Bool) → AreVars c vs → ((m : ℕ) → m < 2 → parts_of s m ≡ None) → IsLiveIn s (drop i vs) n → value s vs x n ≡ value s (drop i vs) x n
+pub value_drop : (s : List (Option Parts)) (c : ℕ) (vs : List ℕ) (i n : ℕ) (x : ℕ → Bool) → AreVars c vs → ((m : ℕ) → m < 2 → parts_of s m ≡ None) → IsLiveIn s (drop i vs) n → value s vs x n ≡ value s (drop i vs) x n
 unfolding value walk
 value_drop s c vs zero n x vars ground live = refl
 value_drop s c [] (suc i) n x vars ground live = refl

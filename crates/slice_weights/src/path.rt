@@ -101,8 +101,8 @@ impl Path {
     }
 }
 
-// Adds the nodes that are left of the last `wide` ones once a variable is fixed.
-fn push_row(
+/// Adds the nodes that are left of the last `wide` ones once a variable is fixed.
+pub fn push_row(
     store: &Store,
     nodes: &mut Vec<u32>,
     wide: usize,
@@ -120,8 +120,8 @@ fn push_row(
     Ok(())
 }
 
-// Whether some node isn't FALSE.
-fn some_true(t: &[u32]) -> bool
+/// Whether some node isn't FALSE.
+pub fn some_true(t: &[u32]) -> bool
     ensures yes { result ≡ true → HasTrue t.now }
     ensures no { result ≡ false → AreFalse t.now }
 {
@@ -133,8 +133,8 @@ fn some_true(t: &[u32]) -> bool
     false
 }
 
-// The list with one more bit at its end.
-fn extended(x: &Bits, bit: bool) -> Bits
+/// The list with one more bit at its end.
+pub fn extended(x: &Bits, bit: bool) -> Bits
     requires { length x.now < 128 }
     ensures { result ≡ x.now ++ bit ∷ [] }
 {
@@ -145,8 +145,8 @@ fn extended(x: &Bits, bit: bool) -> Bits
     Bits::at_place(twice, x.len() + 1)
 }
 
-// The list without its last bit, and that bit.
-fn shortened(x: &Bits) -> (Bits, bool)
+/// The list without its last bit, and that bit.
+pub fn shortened(x: &Bits) -> (Bits, bool)
     requires { 0 < length x.now }
     ensures { x.now ≡ result.0 ++ result.1 ∷ [] }
 {
