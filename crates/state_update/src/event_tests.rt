@@ -20,8 +20,8 @@ const ZERO: Quad = Quad {
 
 /// H on the first qubit.
 fn hadamard(alloc: Global) -> Event
-    ensures { IsWithin 1 result }
-    ensures { IsWithin 2 result }
+    ensures one { IsWithin 1 result }
+    ensures two { IsWithin 2 result }
 {
     Event::Gate(Gate::new(alloc, Kind::H, &[0]))
 }
