@@ -20,8 +20,8 @@ const ZERO: Quad = Quad {
 
 /// H on the first qubit.
 fn hadamard(alloc: Global) -> Event
-    ensures { IsWithin 1 result }
-    ensures { IsWithin 2 result }
+    ensures one { IsWithin 1 result }
+    ensures two { IsWithin 2 result }
 {
     Event::Gate(Gate::new(alloc, Kind::H, &[0]))
 }
@@ -64,6 +64,17 @@ fn entries<A: Amplitudes>(state: &A) -> [Quad; 4]
     ]
 }
 
+/// Applies the gate of an event, if it is one.
+fn apply_gate_of(rt: &impl Abort, alloc: Global, state: &mut DenseState, e: &Event)
+    requires two { length state.old.input ≡ 2 }
+    requires within { IsWithin 2 e.now }
+    ensures { length state.new.input ≡ 2 }
+{
+    if let Event::Gate(gate) = e {
+        assert_eq!(rt; refused_at(alloc, state, gate), 0);
+    }
+}
+
 /// The events leave the entries of their gates alone, with one report each.
 fn expect_gates_alone(rt: &impl Abort, alloc: Global, list: &[Event])
     requires within { All (IsWithin 2) list.now }
@@ -79,9 +90,7 @@ fn expect_gates_alone(rt: &impl Abort, alloc: Global, list: &[Event])
         panic!(rt; "no memory");
     };
     for e in list {
-        if let Event::Gate(gate) = e {
-            assert_eq!(rt; refused_at(alloc, &mut plain, gate), 0);
-        }
+        apply_gate_of(rt, alloc, &mut plain, e);
     }
     assert_eq!(rt; entries(&state), entries(&plain));
     assert_eq!(rt; state.exponent(), plain.exponent());
@@ -131,12 +140,11 @@ fn upkeep_events(rt: HostRuntime) {
 fn upkeep_swap(rt: HostRuntime) {
     let alloc = rt.alloc();
     let mut state = fresh(&rt, alloc, 2, &Rules::usual());
-    for number in 0..2u8 {
-        let Event::Gate(gate) = event(alloc, number) else {
-            panic!(rt; "a gate");
-        };
-        assert_eq!(rt; refused_at(alloc, &mut state, &gate), 0);
-    }
+    let hadamard = Gate::new(alloc, Kind::H, &[0]);
+    let controlled = Gate::new(alloc, Kind::Cx, &[0, 1]);
+    assert_eq!(rt; refused_at(alloc, &mut state, &hadamard), 0);
+    assert_eq!(rt; refused_at(alloc, &mut state, &controlled), 0);
+    assert!(rt; state.accepted() == 2);
     let (d, _) = state.parts();
     assert!(rt; d.cached() >= 1);
     let before = entries(&state);
