@@ -1,4 +1,4 @@
-use Rattle.std.proofs.Common.{arith, ◌≤◌, length, ◌-◌, drop, refl, subst, sym}
+use Rattle.std.proofs.Common.{arith, ◌≤◌, length, ◌-◌, drop, refl, subst}
 use Rattle.std.proofs.lemmas.List.Sums.{count_by-le-length}
 use Rattle.probabilities.specs.Outcomes.{measured_count}
 use Rattle.slice_weights.specs.Paths.{HasTrue, AreFalse}
