@@ -5,8 +5,8 @@ use Rattle.std.proofs.Math.Seq.{drop-length}
 use Rattle.std.specs.List.{range_with_len}
 use Rattle.std.proofs.lemmas.Bool.{cases_Bool, cases_eq, false≢true, ne_eqb}
 use Rattle.bit_lists.specs.Lists.{bit_value}
-use Rattle.std.proofs.lemmas.List.{length-map, length-set, length-replicate, get_or-map, get_or_append_left, get_or-set_other, take_all}
-use Rattle.std.proofs.lemmas.List.FromFn.{get_or-range_with_len}
+use Rattle.std.proofs.lemmas.List.{ext_get_or, length-map, length-set, length-replicate, get_or-map, get_or_append_left, get_or-set_other, take_all}
+use Rattle.std.proofs.lemmas.List.FromFn.{length-range_with_len, get_or-range_with_len}
 use Rattle.bit_lists.specs.Orders.{has, AreVars}
 use Rattle.bit_lists.proofs.Variables.{has-head, has-here}
 use Rattle.diagram_model.specs.declared.parts.Parts.{Parts}
@@ -23,9 +23,9 @@ use Rattle.slice_quad.specs.Walks.{entries_in, Shares, IsNonzeroFrom, AreZeroFro
 use Rattle.slice_quad.proofs.Walking.{set_at}
 use Rattle.slice_weights.specs.declared.places.Places.{Places}
 use Rattle.slice_weights.specs.declared.places.Roots.{Roots}
-use Rattle.slice_weights.specs.Private.{picked, four_at, ArePlaces, ArePlacesIn, AreFrom, IsBitOf, AreRoots, IsReady, IsConstant}
+use Rattle.slice_weights.specs.Private.{picked, four_at, ArePlaces, ArePlacesIn, AreFrom, AreFalse, IsSomeLeft, IsBitOf, AreRoots, IsReady, IsConstant}
 use Rattle.slice_weights.specs.declared.path.Path.{Path}
-use Rattle.slice_weights.specs.Paths.{IsRow, AreRows, IsWay, HasTrue, AreFalse}
+use Rattle.slice_weights.specs.Paths.{IsRow, AreRows, IsWay}
 use Rattle.slice_weights.proofs.Fronts.{has-drop, not_behind}
 use Rattle.slice_weights.proofs.Tuples.{half, proper_drop, half_from, length-half, entry_half, constant_false}
 use Rattle.slice_weights.proofs.Outcomes.{entry_nonzero}
@@ -33,6 +33,11 @@ use Rattle.slice_weights.proofs.Outcomes.{entry_nonzero}
 -- ---- the natural order
 pub natural_at : (n k : ℕ) (order : List ℕ) → order ≡ range_with_len 0 n → k < n → get_or order k 0 ≡ k
 natural_at n k order is lt = ap (λ o. get_or o k 0) is ∙ get_or-range_with_len 0 n k 0 lt ∙ omega arith
+
+pub natural_from : (order : List ℕ) → ((k : ℕ) → k < length order → get_or order k 0 ≡ k) → order ≡ range_with_len 0 (length order)
+natural_from order same =
+    ext_get_or 0 order (range_with_len 0 (length order)) (sym (length-range_with_len 0 (length order)))
+    (λ k lt. same k lt ∙ sym (get_or-range_with_len 0 (length order) k 0 lt ∙ omega arith))
 
 -- ---- a bit more
 shares_front : (x y : List Bool) (b : Bool) (k : ℕ) → length x ≡ k → Shares (k + 1) y (x ++ b ∷ []) → Shares k y x
@@ -259,7 +264,7 @@ not_below d k v sound natural less within =
       | inr h ↦ h
     ]
 
-pub some_below : (d : Diagram) (s : Places) (f : Four) (m k : ℕ) (x : List Bool) (t : List ℕ) → IsSound d → d.order ≡ range_with_len 0 (length d.order) → length x ≡ k → k ≤ length d.order → IsRow d s f m k x t → HasTrue t
+pub some_below : (d : Diagram) (s : Places) (f : Four) (m k : ℕ) (x : List Bool) (t : List ℕ) → IsSound d → d.order ≡ range_with_len 0 (length d.order) → length x ≡ k → k ≤ length d.order → IsRow d s f m k x t → IsSomeLeft t
     → IsNonzeroFrom (length d.order) (entries_in d f) k x
 some_below d s f m k x t sound natural long within row some =
     let n = get_or t some.at 0 in
@@ -268,7 +273,7 @@ some_below d s f m k x t sound natural long within row some =
     let live = row.from some.at some.within in
     let vars : AreVars (length d.order) (drop k d.order) = vars_drop (length d.order) d.order k sound.diagram.order in
     let r = true_below d.slots (length d.order) (drop k d.order) n vars
-    (proper_drop d.slots (length d.order) d.order k sound.diagram.order sound.diagram.proper) sound.diagram.unique sound.diagram.ground live some.is pad
+    (proper_drop d.slots (length d.order) d.order k sound.diagram.order sound.diagram.proper) sound.diagram.unique sound.diagram.ground live some.left pad
     (λ v h. (let b = below-order (length d.order) d.order v sound.diagram.order (has-drop d.order k v h) in omega (arith, b, wide))) in
     let shares : Shares k r.0 x = λ i lt. r.2 i (not_below d k i sound natural lt within) ∙ get_or_append_left x (replicate (length d.order - k) false) false i (omega (arith, lt, long)) in
     record {

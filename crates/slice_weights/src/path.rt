@@ -4,11 +4,11 @@ ghost use Rattle.std.specs.List.{range_with_len};
 ghost use Rattle.diagram_model.specs.Nodes.{follow};
 ghost use Rattle.slice_quad.specs.Vectors.{Stands};
 ghost use Rattle.slice_quad.specs.Walks.{entries_in, IsNonzeroFrom, AreZeroFrom};
-ghost use Rattle.slice_weights.specs.Paths.{IsWay, HasTrue, AreFalse};
+ghost use Rattle.slice_weights.specs.Paths.{IsWay};
 
 use crate::integer::constant_entry;
 use crate::places::{Places, gather};
-use crate::tuple::follow;
+use crate::tuple::{are_false, follow};
 use bit_lists::{Bits, OutOfMemory};
 use diagram_ops::Diagrams;
 use node_store::Store;
@@ -57,7 +57,7 @@ impl Path {
         ensures yes { result ≡ true → IsNonzeroFrom (length store.now.order) (entries_in store.now of.now) (length self.now.at) self.now.at }
         ensures no { result ≡ false → AreZeroFrom (length store.now.order) (entries_in store.now of.now) (length self.now.at) self.now.at }
     {
-        some_true(&self.nodes[self.nodes.len() - self.wide..])
+        !are_false(&self.nodes[self.nodes.len() - self.wide..])
     }
 
     /// One variable more is fixed.
@@ -118,19 +118,6 @@ fn push_row(
         nodes.push(follow(store, n, var, bit))?;
     }
     Ok(())
-}
-
-// Whether some node isn't FALSE.
-fn some_true(t: &[u32]) -> bool
-    ensures yes { result ≡ true → HasTrue t.now }
-    ensures no { result ≡ false → AreFalse t.now }
-{
-    for n in t {
-        if *n != 0 {
-            return true;
-        }
-    }
-    false
 }
 
 // The list with one more bit at its end.
