@@ -1,4 +1,6 @@
+pub mod Chains
 pub mod Enough
+pub mod InForce
 pub mod MatrixLemmas
 pub mod NodeLemmas
 pub mod StepEnds

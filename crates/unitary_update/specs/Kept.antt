@@ -118,10 +118,14 @@ Applies s t (Err (Width number)) = (number ≡ length s.steps + 1) × ¬ RawStep
 Applies s t (Err (Nodes number order full)) = (number ≡ length s.steps + 1) × LacksNodes s t order full
 Applies s t (Err OutOfMemory) = ⊥
 
--- the identity takes three nodes a qubit, and stops exactly where these are more than the rules allow; then the steps come one after the other
+-- the identity takes three nodes a qubit, and stops exactly where these are more than the rules allow
+abbrev pub Starts : Settings → ℕ → Phase (Unit {0}) Stop
+Starts rules n = StopsWhere (rules.nodes < 3 * n) (Nodes 0 (range_with_len 0 (2 * n)) rules.nodes)
+
+-- the identity is multiplied by one step after the other
 abbrev pub Multiplies : Settings → ℕ → List Step → Phase Standing Stop
 Multiplies rules n steps = do
-  StopsWhere (rules.nodes < 3 * n) (Nodes 0 (range_with_len 0 (2 * n)) rules.nodes)
+  Starts rules n
   Through Applies (begun n rules) steps
 
 -- ---- a kept matrix
