@@ -1,6 +1,5 @@
 -- What contracts see of a state that is kept as integers over decision diagrams, and how they keep it.
 use Rattle.std.specs.Prelude.{◌≡◌, ◌≤◌, ℕ, Bool, false, List, length, All, Result, Ok, Err}
-use Rattle.bit_lists.specs.Orders.{IsOrder}
 use Rattle.gate_set.specs.declared.gate.Gate.{Gate}
 use Rattle.gate_set.specs.Shape.{IsOn}
 use Rattle.circuit_model.specs.Working.{work}
@@ -16,7 +15,7 @@ use Rattle.slice_quad.specs.declared.quad.SliceQuad.{SliceQuad}
 use Rattle.slice_quad.specs.Vectors.{Stands}
 use Rattle.slice_gates.specs.GateWork.{gate_work}
 use Rattle.slice_gates.specs.Shown.{Shows, by_values}
-use Rattle.step_upkeep.specs.Due.{IsInForce}
+use Rattle.step_upkeep.specs.Due.{IsInForce, IsLeft}
 use Rattle.step_upkeep.specs.Stored.{stored_functions}
 
 -- the input, the rules, the gates accepted so far, and the diagrams with the integers
@@ -71,9 +70,9 @@ needed s fs = size (length s.order) s.order fs
 abbrev pub IsNextOrder : Standing → List ℕ → Type 0
 IsNextOrder s order = IsInForce s.rules.sift (length s.gates) (stored_of s) s.rules.nodes s.order order
 
--- the order after the answer to a gate; after want of memory it may be any order of the variables
+-- the order after the answer to a gate; after want of memory it may be any order of the variables where a sift was due
 abbrev pub Reorders : Standing → Result (Unit {0}) Stop → List ℕ → Type 0
-Reorders s (Err OutOfMemory) order = IsOrder order × (length order ≡ length s.order)
+Reorders s (Err OutOfMemory) order = IsLeft s.rules.sift (length s.gates) s.order order
 Reorders s _ order = IsNextOrder s order
 
 -- Integers over diagrams change the order by sifting alone. A gate may be refused for want of nodes where its work functions alone need as many as

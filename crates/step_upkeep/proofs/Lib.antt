@@ -3,6 +3,7 @@ pub mod Enough
 pub mod Gates
 pub mod Keeping
 pub mod Roots
+pub mod Sifted
 pub mod StepFor
 pub mod Stored
 pub mod StoredAfter
