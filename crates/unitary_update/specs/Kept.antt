@@ -1,7 +1,6 @@
 -- What contracts see of a matrix that is kept as integers over decision diagrams, how it goes on, step by step, and how they keep it.
 use Rattle.std.specs.Prelude.{◌≡◌, ◌≤◌, ◌<◌, ℕ, ◌+◌, ◌*◌, List, [], ◌∷◌, ◌++◌, length, Result, Ok, Err}
 use Rattle.std.specs.List.{range_with_len}
-use Rattle.bit_lists.specs.Orders.{IsOrder}
 use Rattle.circuit_model.specs.Working.{Scaled}
 use Rattle.comparison.specs.Scalars.{Matrix}
 use Rattle.comparison.specs.Products.{Step, by_position, work_matrix, RawStepFits}
@@ -25,7 +24,7 @@ use Rattle.slice_gates.specs.Shown.{first_values, IsMatrixShown}
 use Rattle.slice_gates.specs.Sides.{place_on}
 use Rattle.slice_gates.specs.Stepped.{step_for}
 use Rattle.phases.specs.Phases.{Phase, ◌>>=◌, ◌>>◌, StopsWhere, Through}
-use Rattle.step_upkeep.specs.Due.{IsInForce}
+use Rattle.step_upkeep.specs.Due.{IsInForce, IsLeft}
 use Rattle.step_upkeep.specs.Stored.{stored_functions}
 use Rattle.unitary_update.specs.declared.accepted.MatrixStep.{MatrixStep}
 use Rattle.unitary_update.specs.declared.accepted.MatrixStep.TheVariants.{Left, Right}
@@ -93,9 +92,9 @@ IsStored s = needed s (stored_of s) ≤ s.rules.nodes
 abbrev pub IsNextOrder : Standing → List ℕ → Type 0
 IsNextOrder s order = IsInForce s.rules.sift (length s.steps) (stored_of s) s.rules.nodes s.order order
 
--- the order after the answer to a step; after want of memory it may be any order of the variables
+-- the order after the answer to a step; after want of memory it may be any order of the variables where a sift was due
 abbrev pub Reorders : Standing → Result (Unit {0}) Stop → List ℕ → Type 0
-Reorders s (Err OutOfMemory) order = IsOrder order × (length order ≡ length s.order)
+Reorders s (Err OutOfMemory) order = IsLeft s.rules.sift (length s.steps) s.order order
 Reorders s _ order = IsNextOrder s order
 
 -- the step is accepted, and then the matrix stands by r

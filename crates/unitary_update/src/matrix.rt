@@ -92,7 +92,7 @@ impl SlicedMatrix {
     }
 
     /// Multiplies by the gate's matrix from the left: the matrix M becomes G·M, halved. Where a sift is due, all variables are sifted in turn
-    /// first, and the order that this leads to is in force from then on; after want of memory any order may be.
+    /// first, and the order that this leads to is in force from then on; where memory is wanted at that, any order may be.
     ///
     /// `Width` comes only where a coefficient of the product is wider than the rules let it be, and `Nodes` only where, in the order in force,
     /// the step's work functions alone need at least as many nodes as the rules let it have. A stop numbers this step among the left and right ones
