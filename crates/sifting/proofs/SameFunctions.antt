@@ -1,12 +1,12 @@
 -- Lists of the same functions are sifted alike.
-use Rattle.std.proofs.Common.{◌≡◌, ℕ, zero, suc, ◌+◌, ◌*◌, ◌≤◌, Bool, true, false, List, [], ◌∷◌, length, inl, inr, refl, sym, ◌∙◌, ap, subst, arith}
+use Rattle.std.proofs.Common.{◌≡◌, ℕ, zero, suc, ◌+◌, ◌≤◌, Bool, true, false, List, [], ◌∷◌, length, inl, inr, refl, sym, ◌∙◌, ap, subst, arith}
 use Rattle.std.specs.Prelude.{slice_index}
 use Rattle.bit_lists.specs.Orders.{has}
 use Rattle.diagram_model.specs.Bryant.{IsOneOf}
 use Rattle.diagram_model.specs.Functions.{Function, fix}
 use Rattle.diagram_model.specs.Size.{size, level_size, fix_both}
 use Rattle.node_reclaim.proofs.Bound.{size-le, one_some}
-use Rattle.sifting.specs.Places.{Sift, first, order_at, size_at, level_at, HasRoom, IsReached, IsNoWorse, IsSiftedPlace, fixed, level}
+use Rattle.sifting.specs.Places.{Sift, order_at, size_at, HasRoom, IsReached, IsNoWorse, IsSiftedPlace, fixed, level}
 use Rattle.sifting.specs.Places.IsReached.{here, down, up}
 use Rattle.sifting.specs.Answers.{SiftsTo, SameFunctions, sift_in}
 

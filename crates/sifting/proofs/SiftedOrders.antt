@@ -1,10 +1,10 @@
 -- The order that sifting variables in turn leads to.
 use Rattle.std.proofs.Common.{◌≡◌, ◌⊎◌, ℕ, zero, suc, ◌+◌, ◌*◌, ◌<◌, ◌≤◌, List, [], ◌∷◌, length, inl, inr, refl, sym, ◌∙◌, ap, subst, arith}
 use Rattle.std.proofs.lemmas.Bool.{cases_lt}
-use Rattle.bit_lists.specs.Orders.{has, IsOrder}
+use Rattle.bit_lists.specs.Orders.{IsOrder}
 use Rattle.diagram_model.specs.Functions.{Function}
 use Rattle.sifting.specs.declared.sift.Sifted.{Sifted}
-use Rattle.sifting.specs.Places.{Sift, first, order_at, size_at, level_at, HasRoom, IsReached, IsNoWorse, IsSiftedPlace}
+use Rattle.sifting.specs.Places.{Sift, first, order_at, size_at, level_at, HasRoom, IsReached, IsSiftedPlace}
 use Rattle.sifting.specs.Places.IsReached.{here, down, up}
 use Rattle.sifting.specs.Answers.{AreInTurn, SiftsTo, sift_in, last_order}
 use Rattle.sifting.proofs.PlaceLemmas.{only_place}

@@ -26,11 +26,11 @@ use Rattle.step_upkeep.proofs.Stored.{bit_in}
 
 -- ---- the functions of the roots
 -- a list's first function, and the others
-first_of : Function → List Function → Function
+abbrev first_of : Function → List Function → Function
 first_of f [] = f
 first_of f (g ∷ gs) = g
 
-others_of : List Function → List Function
+abbrev others_of : List Function → List Function
 others_of [] = []
 others_of (g ∷ gs) = gs
 

@@ -1,5 +1,5 @@
 -- What upkeep, and a step with upkeep, keep of a vector or matrix, and what a refusal says.
-use Rattle.std.specs.Prelude.{◌≡◌, ◌≤◌, ℕ, List, length, map, Result, Ok, Err}
+use Rattle.std.specs.Prelude.{◌≡◌, ◌≤◌, ℕ, List, length, map, Result, Err}
 use Rattle.diagram_model.specs.Functions.{Function}
 use Rattle.diagram_model.specs.Size.{size}
 use Rattle.diagram_model.specs.Stores.{Diagram, function_of}

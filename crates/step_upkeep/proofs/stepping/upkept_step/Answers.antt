@@ -1,4 +1,4 @@
-use Rattle.std.proofs.Common.{rules, ◌≡◌, ℕ, List, length, Err, sym, subst}
+use Rattle.std.proofs.Common.{rules, ◌≡◌, ℕ, Err, sym, subst}
 use Rattle.slice_quad.specs.declared.stop.QuadStop.TheVariants as quads
 use Rattle.slice_quad.specs.Stepping.{IsStepOn}
 use Rattle.step_upkeep.specs.Upkept.{Reorders}
