@@ -17,10 +17,10 @@ use Rattle.comparison.specs.Products.{Step, gate_of, raw_matrix, work_matrix, Ra
 use Rattle.amp_dense.specs.Rules.{Settings}
 use Rattle.amp_dense.specs.declared.stop.Stop.{Stop}
 use Rattle.amp_dense.specs.declared.stop.Stop.TheVariants.{Width, Nodes, OutOfMemory}
-use Rattle.phases.specs.Phases.{Phase, GoesOn, Through, OnStop, HasOneEnd, HasSomeEnd}
+use Rattle.phases.specs.Phases.{GoesOn, Through, HasOneEnd, HasSomeEnd}
 use Rattle.phases.proofs.Ends.{one_after, one_stops_where, one_through, some_hands_on, some_stops_where}
-use Rattle.unitary_update.specs.Kept.{Standing, begun, in_order, with_step, work_of, needed, IsStored, IsNextOrder, Accepts, LacksNodes, Applies, Starts, Multiplies}
-use Rattle.unitary_update.proofs.InForce.{one_order, some_order, keeps_order}
+use Rattle.unitary_update.specs.Kept.{Standing, begun, in_order, with_step, work_of, needed, IsStored, IsNextOrder, Accepts, Applies, Starts, Multiplies}
+use Rattle.unitary_update.proofs.Orders.{one_order, some_order, keeps_order}
 use Rattle.unitary_update.proofs.Enough.{enough}
 use Rattle.unitary_update.proofs.StepEnds.{accepted_or_refused, fits_begun, fits_next}
 
@@ -89,7 +89,7 @@ ready_begun n rules wide = record { wide = wide; is_order = natural_is_order (2 
 -- and the one after a step that is accepted
 ready_next : (s : Standing) (t : Step) (r : Standing) → IsReady s → Accepts s t r → IsReady r
 ready_next s t r ready a =
-    subst IsReady (sym a.same) (record { wide = ready.wide; is_order = (keeps_order s ready.is_order r.order a.order).0; fits = fits_next s.qubits s.rules.width s.steps t a.fits })
+    subst IsReady (sym a.same) (record { wide = ready.wide; is_order = (keeps_order s r.order ready.is_order a.order).0; fits = fits_next s.qubits s.rules.width s.steps t a.fits })
 
 -- what a step needs isn't a matter of the order that was in force before
 work_in_order : (s : Standing) (order : List ℕ) (t : Step) → work_of (in_order s order) t ≡ work_of s t
@@ -117,7 +117,7 @@ module _ (S : Stop → Type 0) (stops : (stop : Stop) → S stop) where
       given : IsStored (with_step (in_order s order) t) ⊎ (s.rules.nodes ≤ needed (in_order s order) (work_of (in_order s order) t))
       given =
           let wide : 2 ≤ s.rules.width = ready.wide in
-          accepted_or_refused (in_order s order) t (s.rules.width - 1) (omega (arith, wide)) (keeps_order s ready.is_order order next.1).0.once on ready.fits
+          accepted_or_refused (in_order s order) t (s.rules.width - 1) (omega (arith, wide)) (keeps_order s order ready.is_order next.1).0.once on ready.fits
 
       fitting : Fits → IsStored (with_step (in_order s order) t) ⊎ (s.rules.nodes ≤ needed (in_order s order) (work_of (in_order s order) t)) → HasSomeEnd S (Applies s t)
       fitting fits (inl stored) = (Ok (with_step (in_order s order) t), record { fits = fits; order = next.1; stored = stored; same = refl }, tt)
@@ -210,7 +210,7 @@ record HasRoom (s : Standing) : Type 0 where
 
 room_next : (s : Standing) (t : Step) (r : Standing) → HasRoom s → Accepts s t r → HasRoom r
 room_next s t r room a =
-    let kept = keeps_order s room.is_order r.order a.order in
+    let kept = keeps_order s r.order room.is_order a.order in
     subst HasRoom (sym a.same) (record { is_order = kept.0; long = kept.1 ∙ room.long; limit = room.limit })
 
 -- the stop says that a step doesn't fit the width

@@ -9,7 +9,7 @@ use Rattle.slice_gates.specs.declared.side.Side.TheVariants.{Rows, Columns}
 use Rattle.slice_quad.specs.RowsColumns.{row_equals_column}
 use Rattle.step_upkeep.proofs.Enough.{work_few, enough_nodes}
 use Rattle.unitary_update.specs.Kept.{Standing, by_variables, work_of, Applies}
-use Rattle.unitary_update.proofs.InForce.{keeps_order}
+use Rattle.unitary_update.proofs.Orders.{keeps_order}
 
 -- a step has few work functions
 step_few : (s : Standing) (t : Step) → IsOn s.qubits (gate_of t) → length (work_of s t) ≤ 64 * (s.rules.width + 2) + 130
@@ -21,4 +21,4 @@ step_few s (right g) on = work_few (2 * s.qubits) s.rules.width Columns (row_equ
 pub enough : (s : Standing) (t : Step) → IsOn s.qubits (gate_of t) → IsOrder s.order → length s.order ≡ 2 * s.qubits → (64 * (s.rules.width + 2) + 130) * 2 ^ (2 * s.qubits) ≤ s.rules.nodes
     → (number : ℕ) (order : List ℕ) (held : ℕ) → ¬ Applies s t (Err (Nodes number order held))
 enough s t on is long limit number order held h =
-    enough_nodes s.rules.width (2 * s.qubits) s.rules.nodes order (work_of s t) (step_few s t on) ((keeps_order s is order h.1.order_is).1 ∙ long) limit h.1.needs
+    enough_nodes s.rules.width (2 * s.qubits) s.rules.nodes order (work_of s t) (step_few s t on) ((keeps_order s order is h.1.order_is).1 ∙ long) limit h.1.needs

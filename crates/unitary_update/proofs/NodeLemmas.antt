@@ -19,6 +19,7 @@ use Rattle.slice_quad.specs.Vectors.{vector_in}
 use Rattle.slice_gates.specs.Shown.{at_lists, first_values, ReadsBelow, IsMatrixShown}
 use Rattle.slice_gates.specs.Sides.{woven}
 use Rattle.slice_gates.proofs.Agreeing.{length-first_values, at_list, vector-reads}
+use Rattle.step_upkeep.specs.declared.upkeep.Schedule.{Schedule}
 use Rattle.step_upkeep.specs.Due.{IsInForce}
 use Rattle.step_upkeep.specs.Stored.{stored_functions}
 use Rattle.step_upkeep.specs.Upkept.{functions_in, work_in}
@@ -112,9 +113,11 @@ module _ (s : State) (h : IsKept s) where
       omega (arith, counts, le, few, limit)
 
   -- the order that is in force for the integers is the one for the matrix
-  pub next_in_force : (order : List ℕ) → IsInForce s.rules.sift (length s.steps) (functions_in d s.quad) d.limit d.order order → IsNextOrder (standing_of s) order
-  next_in_force order force =
+  pub next_order : (t : Schedule) (done : ℕ) (order : List ℕ) → t.sift ≡ s.rules.sift → done ≡ length s.steps → IsInForce t.sift done (functions_in d s.quad) d.limit d.order order
+      → IsNextOrder (standing_of s) order
+  next_order t done order sift count force =
       let W = s.rules.width in
-      let stored = in_force_stored d s.quad h.stands s.rules.sift (length s.steps) d.limit W d.order order h.narrow force in
+      let here = subst (λ i. IsInForce i (length s.steps) (functions_in d s.quad) d.limit d.order order) sift (subst (λ k. IsInForce t.sift k (functions_in d s.quad) d.limit d.order order) count force) in
+      let stored = in_force_stored d s.quad h.stands s.rules.sift (length s.steps) d.limit W d.order order h.narrow here in
       subst (λ (fs : List Function). IsInForce s.rules.sift (length s.steps) fs s.rules.nodes d.order order) (sym stored_is)
       (subst (λ k. IsInForce s.rules.sift (length s.steps) (stored_functions W (function_of d s.quad.kept.0) (vector_in d s.quad.four)) k d.order order) h.limit stored)

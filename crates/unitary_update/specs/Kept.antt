@@ -23,7 +23,7 @@ use Rattle.slice_gates.specs.declared.side.Side.TheVariants.{Rows, Columns}
 use Rattle.slice_gates.specs.Shown.{first_values, IsMatrixShown}
 use Rattle.slice_gates.specs.Sides.{place_on}
 use Rattle.slice_gates.specs.Stepped.{step_for}
-use Rattle.phases.specs.Phases.{Phase, ◌>>=◌, ◌>>◌, StopsWhere, Through}
+use Rattle.phases.specs.Phases.{Phase, ◌>>◌, StopsWhere, Through}
 use Rattle.step_upkeep.specs.Due.{IsInForce, IsLeft}
 use Rattle.step_upkeep.specs.Stored.{stored_functions}
 use Rattle.unitary_update.specs.declared.accepted.MatrixStep.{MatrixStep}

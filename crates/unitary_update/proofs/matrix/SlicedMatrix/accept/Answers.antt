@@ -1,21 +1,21 @@
-use Rattle.std.proofs.Common.{◌≡◌, ◌+◌, ◌*◌, ◌<◌, ◌≤◌, ◌∷◌, ◌++◌, [], ℕ, List, length, map, true, false, refl, ap, sym, ◌∙◌, subst, arith}
+use Rattle.std.proofs.Common.{◌≡◌, ◌+◌, ◌<◌, ◌≤◌, ◌∷◌, ◌++◌, [], ℕ, List, length, map, Result, Err, true, false, refl, ap, sym, ◌∙◌, subst, arith}
 use Rattle.std.proofs.Math.Path.{ap₂}
 use Rattle.std.proofs.lemmas.List.{map_push}
-use Rattle.bit_lists.specs.Orders.{IsOrder}
 use Rattle.node_reclaim.specs.Reclaims.{HoldsOnly}
 use Rattle.gate_set.specs.Shape.{IsOn}
 use Rattle.circuit_model.specs.Working.{FitsWidth}
 use Rattle.comparison.specs.Products.{Step, gate_of, raw_matrix, work_matrix, RawStepFits}
 use Rattle.diagram_model.specs.Size.{size}
 use Rattle.diagram_model.specs.Stores.{Diagram}
+use Rattle.slice_quad.specs.declared.stop.QuadStop.{QuadStop}
 use Rattle.slice_quad.specs.Stops.{OnWidth}
-use Rattle.step_upkeep.specs.Due.{is_due, IsInForce}
+use Rattle.step_upkeep.specs.Due.{is_due}
 use Rattle.step_upkeep.specs.Upkept as quads
-use Rattle.step_upkeep.specs.Upkept.{functions_in, work_in}
+use Rattle.step_upkeep.specs.Upkept.{work_in}
 use Rattle.unitary_update.specs.declared.accepted.MatrixStep.{MatrixStep}
 use Rattle.unitary_update.specs.Kept.{State, Standing, IsKept, standing_of, in_order, with_step, step_in, sliced_step, work_of, needed, InWork, IsStored, IsNextOrder, LacksNodes}
 use Rattle.unitary_update.proofs.MatrixLemmas.{state_with, kept_next, kept_stop, shows_on, keeps_on, fits_state, state_fits}
-use Rattle.unitary_update.proofs.NodeLemmas.{holds_work, step_needs, stored_few, next_in_force}
+use Rattle.unitary_update.proofs.NodeLemmas.{holds_work, step_needs, stored_few, next_order}
 use Rattle.unitary_update.proofs.matrix.SlicedMatrix.accept.Goals as goal
 
 pub multiply-requires-clause-variables : goal.multiply-requires-clause-variables
@@ -55,10 +55,8 @@ returns-in-Ok-clause-accepts c =
     let few : length (map step_in s.steps.items) < 2000000 = subst (λ (m : State). length m.steps < 2000000) (sym c.self.view_is) c.requires.few in
     let narrow = c.in-Ok.ensures.narrow in let width = c.width-width.ensures.value in
     let done : c.accepted-accepted.result ≡ length (map step_in s.steps.items) = c.accepted-accepted.ensures.value ∙ ap (λ (m : State). length m.steps) (sym c.self.view_is) in
-    let at_sift : IsInForce s.rules.sift c.accepted-accepted.result (functions_in u.store s.quad) u.store.limit u.store.order v.store.order =
-    subst (λ i. IsInForce i c.accepted-accepted.result (functions_in u.store s.quad) u.store.limit u.store.order v.store.order) c.schedule_of-schedule.ensures.sift c.in-Ok.ensures.order in
-    let next : IsNextOrder (standing_of shown) v.store.order =
-    next_in_force shown h v.store.order (subst (λ i. IsInForce s.rules.sift i (functions_in u.store s.quad) u.store.limit u.store.order v.store.order) done at_sift) in
+    let force = subst (λ (r : Result (Unit {0}) QuadStop). quads.Reorders c.schedule_of-schedule.result c.accepted-accepted.result u.store s.quad r v.store.order) c.in-Ok.is c.multiply.ensures.order in
+    let next : IsNextOrder (standing_of shown) v.store.order = next_order shown h c.schedule_of-schedule.result c.accepted-accepted.result v.store.order c.schedule_of-schedule.ensures.sift done force in
     let fits : RawStepFits s.rules.width s.qubits (map step_in s.steps.items) t = fits_state shown t c.width-width.result c.width-width.ensures.value (c.in-Ok.ensures.fits w h.shows) in
     let standing : List Step → Standing = λ l. record { qubits = s.qubits; rules = s.rules; steps = l; order = v.store.order } in
     let kept : IsKept (state_with s.qubits s.rules (map step_in s.steps.items ++ t ∷ []) v c.multiply.new.q) =
@@ -82,10 +80,8 @@ returns-in-Ok-clause-order c =
     let u = s.diagrams in let v = c.multiply.new.d in
     let keeps = c.multiply.ensures.keeps in
     let done : c.accepted-accepted.result ≡ length (map step_in s.steps.items) = c.accepted-accepted.ensures.value ∙ ap (λ (m : State). length m.steps) (sym c.self.view_is) in
-    let at_sift : IsInForce s.rules.sift c.accepted-accepted.result (functions_in u.store s.quad) u.store.limit u.store.order v.store.order =
-    subst (λ i. IsInForce i c.accepted-accepted.result (functions_in u.store s.quad) u.store.limit u.store.order v.store.order) c.schedule_of-schedule.ensures.sift c.in-Ok.ensures.order in
-    let next : IsNextOrder (standing_of shown) v.store.order =
-    next_in_force shown h v.store.order (subst (λ i. IsInForce s.rules.sift i (functions_in u.store s.quad) u.store.limit u.store.order v.store.order) done at_sift) in
+    let force = subst (λ (r : Result (Unit {0}) QuadStop). quads.Reorders c.schedule_of-schedule.result c.accepted-accepted.result u.store s.quad r v.store.order) c.in-Ok.is c.multiply.ensures.order in
+    let next : IsNextOrder (standing_of shown) v.store.order = next_order shown h c.schedule_of-schedule.result c.accepted-accepted.result v.store.order c.schedule_of-schedule.ensures.sift done force in
     subst (λ (m : State). IsNextOrder (standing_of m) v.store.order) c.self.view_is next
 
 pub returns-in-Ok-clause-after_reclaim : goal.returns-in-Ok-clause-after_reclaim
@@ -128,10 +124,9 @@ returns-in-Err-Width-clause-order c =
     let u = s.diagrams in let v = c.multiply.new.d in
     let keeps = c.multiply.ensures.keeps in
     let done : c.accepted-accepted.result ≡ length (map step_in s.steps.items) = c.accepted-accepted.ensures.value ∙ ap (λ (m : State). length m.steps) (sym c.self.view_is) in
-    let at_sift : IsInForce s.rules.sift c.accepted-accepted.result (functions_in u.store s.quad) u.store.limit u.store.order v.store.order =
-    subst (λ i. IsInForce i c.accepted-accepted.result (functions_in u.store s.quad) u.store.limit u.store.order v.store.order) c.schedule_of-schedule.ensures.sift c.in-Err-Width.ensures.order in
-    let next : IsNextOrder (standing_of shown) v.store.order =
-    next_in_force shown h v.store.order (subst (λ i. IsInForce s.rules.sift i (functions_in u.store s.quad) u.store.limit u.store.order v.store.order) done at_sift) in
+    let is = c.in-Err-Width.is ∙ ap Err c.in-Err-Width.field-0-is in
+    let force = subst (λ (r : Result (Unit {0}) QuadStop). quads.Reorders c.schedule_of-schedule.result c.accepted-accepted.result u.store s.quad r v.store.order) is c.multiply.ensures.order in
+    let next : IsNextOrder (standing_of shown) v.store.order = next_order shown h c.schedule_of-schedule.result c.accepted-accepted.result v.store.order c.schedule_of-schedule.ensures.sift done force in
     subst (λ (m : State). IsNextOrder (standing_of m) v.store.order) c.self.view_is next
 
 pub invariant_of-self-in-Err-Full : goal.invariant_of-self-in-Err-Full
@@ -162,10 +157,9 @@ returns-in-Err-Full-clause-order c =
     let u = s.diagrams in let v = c.multiply.new.d in
     let keeps = c.multiply.ensures.keeps in
     let done : c.accepted-accepted.result ≡ length (map step_in s.steps.items) = c.accepted-accepted.ensures.value ∙ ap (λ (m : State). length m.steps) (sym c.self.view_is) in
-    let at_sift : IsInForce s.rules.sift c.accepted-accepted.result (functions_in u.store s.quad) u.store.limit u.store.order v.store.order =
-    subst (λ i. IsInForce i c.accepted-accepted.result (functions_in u.store s.quad) u.store.limit u.store.order v.store.order) c.schedule_of-schedule.ensures.sift c.in-Err-Full.ensures.order in
-    let next : IsNextOrder (standing_of shown) v.store.order =
-    next_in_force shown h v.store.order (subst (λ i. IsInForce s.rules.sift i (functions_in u.store s.quad) u.store.limit u.store.order v.store.order) done at_sift) in
+    let is = c.in-Err-Full.is ∙ ap Err c.in-Err-Full.field-0-is in
+    let force = subst (λ (r : Result (Unit {0}) QuadStop). quads.Reorders c.schedule_of-schedule.result c.accepted-accepted.result u.store s.quad r v.store.order) is c.multiply.ensures.order in
+    let next : IsNextOrder (standing_of shown) v.store.order = next_order shown h c.schedule_of-schedule.result c.accepted-accepted.result v.store.order c.schedule_of-schedule.ensures.sift done force in
     subst (λ (m : State). IsNextOrder (standing_of m) v.store.order) c.self.view_is next
 
 pub invariant_of-self-in-Err-OutOfMemory : goal.invariant_of-self-in-Err-OutOfMemory
@@ -180,12 +174,6 @@ invariant_of-self-in-Err-OutOfMemory c =
     kept_stop shown v h keeps.sound keeps.variables keeps.limit keeps.stands (shows_on s.qubits u v s.quad w keeps h.shows)
     (keeps_on s.qubits u v s.quad s.quad keeps refl h.kept) in
     rw (c.reserve.ensures.items, c.in-Err-OutOfMemory.ensures.refused) kept
-
-pub returns-in-Err-OutOfMemory-clause-refused : goal.returns-in-Err-OutOfMemory-clause-refused
-returns-in-Err-OutOfMemory-clause-refused c =
-    let s = c.self.inside in let v = c.multiply.new.d in
-    let standing : List MatrixStep → Standing = λ l. record { qubits = s.qubits; rules = s.rules; steps = map step_in l; order = v.store.order } in
-    ap standing c.reserve.ensures.items ∙ ap (λ (m : State). in_order (standing_of m) v.store.order) c.self.view_is
 
 pub returns-in-Err-Width-clause-stops : goal.returns-in-Err-Width-clause-stops
 returns-in-Err-Width-clause-stops c =
@@ -208,22 +196,23 @@ returns-in-Err-Full-clause-stops c =
     let u = s.diagrams in let v = c.multiply.new.d in
     let keeps = c.multiply.ensures.keeps in
     let done : c.accepted-accepted.result ≡ length (map step_in s.steps.items) = c.accepted-accepted.ensures.value ∙ ap (λ (m : State). length m.steps) (sym c.self.view_is) in
-    let at_sift : IsInForce s.rules.sift c.accepted-accepted.result (functions_in u.store s.quad) u.store.limit u.store.order v.store.order =
-    subst (λ i. IsInForce i c.accepted-accepted.result (functions_in u.store s.quad) u.store.limit u.store.order v.store.order) c.schedule_of-schedule.ensures.sift c.in-Err-Full.ensures.order in
-    let next : IsNextOrder (standing_of shown) v.store.order =
-    next_in_force shown h v.store.order (subst (λ i. IsInForce s.rules.sift i (functions_in u.store s.quad) u.store.limit u.store.order v.store.order) done at_sift) in
+    let is = c.in-Err-Full.is ∙ ap Err c.in-Err-Full.field-0-is in
+    let force = subst (λ (r : Result (Unit {0}) QuadStop). quads.Reorders c.schedule_of-schedule.result c.accepted-accepted.result u.store s.quad r v.store.order) is c.multiply.ensures.order in
+    let next : IsNextOrder (standing_of shown) v.store.order = next_order shown h c.schedule_of-schedule.result c.accepted-accepted.result v.store.order c.schedule_of-schedule.ensures.sift done force in
     let full = subst (quads.NeedsNodes v.store (work_in u.store (sliced_step s.qubits t) s.quad)) c.in-Err-Full.field-0-is c.in-Err-Full.ensures.full in
     let number = ap (λ (k : ℕ). k + 1) c.accepted-accepted.ensures.value in
     let order : c.order.result ≡ v.store.order = c.order.ensures ∙ ap (λ (d : Diagram). d.order) c.store.ensures.value in
     let told : c.in-Err-Full.held ≡ c.args.self.now.rules.nodes = full.0 ∙ keeps.limit ∙ h.limit ∙ ap (λ (m : State). m.rules.nodes) c.self.view_is in
     let most = subst (λ i. i ≤ size (length v.store.order) v.store.order (work_in u.store (sliced_step s.qubits t) s.quad)) keeps.limit full.1 in
     let needs : s.rules.nodes ≤ needed (in_order (standing_of shown) v.store.order) (work_of (standing_of shown) t) = step_needs shown h t v.store.order keeps.sound.store.diagram.order most in
-    let named : List ℕ → Type 0 = λ o. LacksNodes (standing_of c.args.self.now) t o c.in-Err-Full.held in
-    (number, subst named (sym order) (record {
-      order_is = subst (λ (m : State). IsNextOrder (standing_of m) v.store.order) c.self.view_is next;
-      needs = subst (λ (m : State). m.rules.nodes ≤ needed (in_order (standing_of m) v.store.order) (work_of (standing_of m) t)) c.self.view_is needs;
-      full_is = told;
-    }))
+    let named : List ℕ → Type 0 = λ o. LacksNodes (standing_of c.args.self.now) t o c.in-Err-Full.held in (
+      number,
+      subst named (sym order) (record {
+        order_is = subst (λ (m : State). IsNextOrder (standing_of m) v.store.order) c.self.view_is next;
+        needs = subst (λ (m : State). m.rules.nodes ≤ needed (in_order (standing_of m) v.store.order) (work_of (standing_of m) t)) c.self.view_is needs;
+        full_is = told;
+      }),
+    )
 
 pub returns-in-Err-Full-clause-in_force : goal.returns-in-Err-Full-clause-in_force
 returns-in-Err-Full-clause-in_force c = c.order.ensures ∙ ap (λ (d : Diagram). d.order) c.store.ensures.value
