@@ -1,7 +1,9 @@
 -- Where nodes are enough, no command stops for want of them.
-use Rattle.std.proofs.Common.{◌≡◌, ◌≢◌, ℕ, ◌+◌, ◌*◌, ◌^◌, ◌<◌, ◌≤◌, Bool, false, List, [], ◌∷◌, length, Option, Result, Ok, Err, All, sym, ◌∙◌, ap, subst, arith}
+use Rattle.std.proofs.Common.{◌≡◌, ◌≢◌, ℕ, ◌+◌, ◌*◌, ◌^◌, ◌<◌, ◌≤◌, Bool, false, List, [], ◌∷◌, length, Option, Result, Ok, Err, All, sym, ◌∙◌, subst, arith}
 use Rattle.std.proofs.lemmas.List.{length-replicate}
 use Rattle.std.proofs.lemmas.List.FromFn.{length-range_with_len}
+use Rattle.bit_lists.specs.Orders.{IsOrder}
+use Rattle.bit_lists.proofs.Variables.{natural_is_order}
 use Rattle.gate_set.specs.declared.gate.Gate.{Gate}
 use Rattle.gate_set.specs.Circuits.{Circuit}
 use Rattle.gate_set.specs.Shape.{IsOn}
@@ -15,6 +17,7 @@ use Rattle.amp_dense.specs.declared.stop.Stop.{Stop}
 use Rattle.amp_dense.specs.declared.stop.Stop.TheVariants as stops
 use Rattle.state_update.specs.Kept.{sliced_policy}
 use Rattle.state_update.proofs.Enough.{enough}
+use Rattle.state_update.proofs.Orders.{is_next_order}
 use Rattle.equivalence.proofs.Enough as comparisons
 use Rattle.qasm_reader.specs.Reading.{ReadsAs, circuit}
 use Rattle.qasm_reader.proofs.OneReading.{one_reading}
@@ -64,23 +67,27 @@ IsOther cause = Unit {0}
 abbrev pub IsOtherStop : Stop → Type 0
 IsOtherStop stop = IsOther (cause_of stop)
 
--- what each gate finds: rules with enough nodes, and as many variables as qubits
+-- what each gate finds: rules with enough nodes, and an order of as many variables as qubits
 record IsRoomy (s : Standing) : Type 0 where
   nodes : (64 * (s.rules.width + 2) + 130) * 2 ^ length s.input ≤ s.rules.nodes
+  order : IsOrder s.order
   variables : length s.order ≡ length s.input
 
 roomy_begun : (input : List Bool) (rules : Settings) → (64 * (rules.width + 2) + 130) * 2 ^ length input ≤ rules.nodes → IsRoomy (begun input rules)
-roomy_begun input rules limit = record { nodes = limit; variables = length-range_with_len 0 (length input) }
+roomy_begun input rules limit = record { nodes = limit; order = natural_is_order (length input); variables = length-range_with_len 0 (length input) }
 
 roomy_next : (s : Standing) (g : Gate) (t : Standing) → IsRoomy s → Accepts sliced_policy s g t → IsRoomy t
 roomy_next s g t room a = subst IsRoomy (sym a.same) next
   where
+    is : IsOrder t.order × (length t.order ≡ length s.order)
+    is = is_next_order s t.order room.order a.order
+
     next : IsRoomy (with_gate (in_order s t.order) g)
-    next = record { nodes = room.nodes; variables = ap length a.order ∙ room.variables }
+    next = record { nodes = room.nodes; order = is.0; variables = is.1 ∙ room.variables }
 
 gate_has_nodes : (s : Standing) (g : Gate) → IsRoomy s → IsOn (length s.input) g → StopsBy IsOtherStop (Applies sliced_policy s g)
 gate_has_nodes s g room on (stops.Width number) h = tt
-gate_has_nodes s g room on (stops.Nodes number order held) h = enough (in_order s order) g on (ap length h.1.reordered ∙ room.variables) room.nodes h.1.allowed
+gate_has_nodes s g room on (stops.Nodes number order held) h = enough (in_order s order) g on ((is_next_order s order room.order h.1.reordered).1 ∙ room.variables) room.nodes h.1.allowed
 gate_has_nodes s g room on stops.OutOfMemory h = h
 
 -- gates in a row

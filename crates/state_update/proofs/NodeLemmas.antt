@@ -106,14 +106,17 @@ module _ (s : kept.State) (h : IsKept s) where
 
   -- by the gate's answer
   module _ (t : Schedule) (gates : ℕ) (order : List ℕ) (o : Result (Unit {0}) QuadStop) (e : t.sift ≡ s.rules.sift) (f : gates ≡ length s.gates) (told : upkept.Reorders t gates d s.quad o order) where
+    told_of : (a : Result (Unit {0}) QuadStop) → o ≡ a → upkept.Reorders t gates d s.quad a order
+    told_of a is = subst (λ (a : Result (Unit {0}) QuadStop). upkept.Reorders t gates d s.quad a order) is told
+
     pub order_ok : o ≡ Ok tt → IsNextOrder (standing_of s) order
-    order_ok is = next_order t.sift gates order e f (subst (λ (a : Result (Unit {0}) QuadStop). upkept.Reorders t gates d s.quad a order) is told)
+    order_ok is = next_order t.sift gates order e f (told_of (Ok tt) is)
 
-    pub order_wide : o ≡ Err quads.Width → IsNextOrder (standing_of s) order
-    order_wide is = next_order t.sift gates order e f (subst (λ (a : Result (Unit {0}) QuadStop). upkept.Reorders t gates d s.quad a order) is told)
+    pub order_wide : (w : QuadStop) → o ≡ Err w → w ≡ quads.Width → IsNextOrder (standing_of s) order
+    order_wide w is same = next_order t.sift gates order e f (told_of (Err quads.Width) (is ∙ ap Err same))
 
-    pub order_full : (held : ℕ) → o ≡ Err (quads.Full held) → IsNextOrder (standing_of s) order
-    order_full held is = next_order t.sift gates order e f (subst (λ (a : Result (Unit {0}) QuadStop). upkept.Reorders t gates d s.quad a order) is told)
+    pub order_full : (w : QuadStop) (held : ℕ) → o ≡ Err w → w ≡ quads.Full held → IsNextOrder (standing_of s) order
+    order_full w held is same = next_order t.sift gates order e f (told_of (Err (quads.Full held)) (is ∙ ap Err same))
 
-    pub order_stopped : o ≡ Err quads.OutOfMemory → IsLeft s.rules.sift (length s.gates) d.order order
-    order_stopped is = left_order t.sift gates order e f (subst (λ (a : Result (Unit {0}) QuadStop). upkept.Reorders t gates d s.quad a order) is told)
+    pub order_stopped : (w : QuadStop) → o ≡ Err w → w ≡ quads.OutOfMemory → IsLeft s.rules.sift (length s.gates) d.order order
+    order_stopped w is same = left_order t.sift gates order e f (told_of (Err quads.OutOfMemory) (is ∙ ap Err same))

@@ -13,6 +13,8 @@ mod limit_tests;
 #[cfg(test)]
 mod long_tests;
 #[cfg(test)]
+mod sift_tests;
+#[cfg(test)]
 mod tests;
 #[cfg(test)]
 mod walk_tests;

@@ -1,6 +1,7 @@
 pub mod Digits
 pub mod Enough
 pub mod Gates
+pub mod InForce
 pub mod Keeping
 pub mod Roots
 pub mod Sifted

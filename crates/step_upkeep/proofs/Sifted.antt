@@ -19,7 +19,6 @@ use Rattle.slice_quad.specs.declared.quad.SliceQuad.{SliceQuad}
 use Rattle.slice_quad.specs.Fields.{roots_of}
 use Rattle.slice_quad.specs.Fours.{nodes_of}
 use Rattle.slice_quad.specs.Vectors.{vector_in, Stands}
-use Rattle.step_upkeep.specs.Due.{is_due, IsInForce}
 use Rattle.step_upkeep.specs.Upkept.{KeepsQuad, functions_in}
 use Rattle.step_upkeep.proofs.Roots.{in_nodes, to_roots, kept_root, live_stands}
 use Rattle.step_upkeep.proofs.Stored.{bit_in}
@@ -84,10 +83,3 @@ turns_in d q roots limit order rs are turns = subst (λ (fs : List Function). Ar
 pub all_sifted : (fs : List Function) (limit : ℕ) (order new : List ℕ) (rs : List Sifted) → length rs ≡ length order → AreInTurn fs limit order 0 rs → new ≡ last_order order rs → SiftsTo fs limit (length order) 0 order new
 all_sifted fs limit order new rs count turns last =
     subst (λ (l : List ℕ). SiftsTo fs limit (length order) 0 order l) (sym last) (subst (λ k. SiftsTo fs limit k 0 order (last_order order rs)) count (turns_to fs limit order 0 rs turns))
-
--- ---- what is in force
-pub force_sifted : (every gates : ℕ) (fs : List Function) (limit : ℕ) (order new : List ℕ) → is_due every gates ≡ true → SiftsTo fs limit (length order) 0 order new → IsInForce every gates fs limit order new
-force_sifted every gates fs limit order new due to = record { sifted = λ is. to; same = λ not_due. absurd (false≢true (sym not_due ∙ due)) }
-
-pub force_same : (every gates : ℕ) (fs : List Function) (limit : ℕ) (order new : List ℕ) → is_due every gates ≡ false → new ≡ order → IsInForce every gates fs limit order new
-force_same every gates fs limit order new not_due same = record { sifted = λ due. absurd (false≢true (sym not_due ∙ due)); same = λ is. same }

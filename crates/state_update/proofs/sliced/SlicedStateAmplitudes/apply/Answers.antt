@@ -117,7 +117,7 @@ returns-in-Err-Width-clause-order c =
     let keeps = c.upkept_gate.ensures.keeps in
     let sift : c.schedule_of-schedule.result.sift ≡ s.rules.sift = ap (λ (t : Schedule). t.sift) c.schedule_of-schedule.ensures in
     let count : c.accepted-gates.result ≡ length s.gates.items = c.accepted-gates.ensures.value ∙ ap (λ (t : State). length t.gates) (sym c.self.view_is) in
-    subst (λ (t : State). IsNextOrder (standing_of t) v.store.order) c.self.view_is (order_wide shown h c.schedule_of-schedule.result c.accepted-gates.result v.store.order c.upkept_gate.result sift count c.upkept_gate.ensures.order c.in-Err-Width.is)
+    subst (λ (t : State). IsNextOrder (standing_of t) v.store.order) c.self.view_is (order_wide shown h c.schedule_of-schedule.result c.accepted-gates.result v.store.order c.upkept_gate.result sift count c.upkept_gate.ensures.order c.in-Err-Width.field-0 c.in-Err-Width.is c.in-Err-Width.field-0-is)
 
 pub invariant_of-self-in-Err-Full : goal.invariant_of-self-in-Err-Full
 invariant_of-self-in-Err-Full c =
@@ -141,7 +141,7 @@ returns-in-Err-Full-clause-order c =
     let keeps = c.upkept_gate.ensures.keeps in
     let sift : c.schedule_of-schedule.result.sift ≡ s.rules.sift = ap (λ (t : Schedule). t.sift) c.schedule_of-schedule.ensures in
     let count : c.accepted-gates.result ≡ length s.gates.items = c.accepted-gates.ensures.value ∙ ap (λ (t : State). length t.gates) (sym c.self.view_is) in
-    subst (λ (t : State). IsNextOrder (standing_of t) v.store.order) c.self.view_is (order_full shown h c.schedule_of-schedule.result c.accepted-gates.result v.store.order c.upkept_gate.result sift count c.upkept_gate.ensures.order c.in-Err-Full.held c.in-Err-Full.is)
+    subst (λ (t : State). IsNextOrder (standing_of t) v.store.order) c.self.view_is (order_full shown h c.schedule_of-schedule.result c.accepted-gates.result v.store.order c.upkept_gate.result sift count c.upkept_gate.ensures.order c.in-Err-Full.field-0 c.in-Err-Full.held c.in-Err-Full.is c.in-Err-Full.field-0-is)
 
 pub invariant_of-self-in-Err-OutOfMemory : goal.invariant_of-self-in-Err-OutOfMemory
 invariant_of-self-in-Err-OutOfMemory c =
@@ -165,7 +165,7 @@ returns-in-Err-OutOfMemory-clause-order c =
     let keeps = c.upkept_gate.ensures.keeps in
     let sift : c.schedule_of-schedule.result.sift ≡ s.rules.sift = ap (λ (t : Schedule). t.sift) c.schedule_of-schedule.ensures in
     let count : c.accepted-gates.result ≡ length s.gates.items = c.accepted-gates.ensures.value ∙ ap (λ (t : State). length t.gates) (sym c.self.view_is) in
-    subst (λ (t : State). IsLeft t.rules.sift (length t.gates) t.diagrams.store.order v.store.order) c.self.view_is (order_stopped shown h c.schedule_of-schedule.result c.accepted-gates.result v.store.order c.upkept_gate.result sift count c.upkept_gate.ensures.order c.in-Err-OutOfMemory.is)
+    subst (λ (t : State). IsLeft t.rules.sift (length t.gates) t.diagrams.store.order v.store.order) c.self.view_is (order_stopped shown h c.schedule_of-schedule.result c.accepted-gates.result v.store.order c.upkept_gate.result sift count c.upkept_gate.ensures.order c.in-Err-OutOfMemory.field-0 c.in-Err-OutOfMemory.is c.in-Err-OutOfMemory.field-0-is)
 
 pub returns-in-Err-Width-clause-stops : goal.returns-in-Err-Width-clause-stops
 returns-in-Err-Width-clause-stops c =
@@ -194,7 +194,7 @@ returns-in-Err-Full-clause-stops c =
     let sift : c.schedule_of-schedule.result.sift ≡ s.rules.sift = ap (λ (t : Schedule). t.sift) c.schedule_of-schedule.ensures in
     let count : c.accepted-gates.result ≡ length s.gates.items = c.accepted-gates.ensures.value ∙ ap (λ (t : State). length t.gates) (sym c.self.view_is) in
     let named : c.order.result ≡ v.store.order = c.order.ensures ∙ ap (λ (d : Diagram). d.order) c.store.ensures.value in
-    let next = subst (λ (t : State). IsNextOrder (standing_of t) v.store.order) c.self.view_is (order_full shown h c.schedule_of-schedule.result c.accepted-gates.result v.store.order c.upkept_gate.result sift count c.upkept_gate.ensures.order c.in-Err-Full.held c.in-Err-Full.is) in
+    let next = subst (λ (t : State). IsNextOrder (standing_of t) v.store.order) c.self.view_is (order_full shown h c.schedule_of-schedule.result c.accepted-gates.result v.store.order c.upkept_gate.result sift count c.upkept_gate.ensures.order c.in-Err-Full.field-0 c.in-Err-Full.held c.in-Err-Full.is c.in-Err-Full.field-0-is) in
     let needs : s.rules.nodes ≤ needed (in_order (standing_of shown) v.store.order) (work_of (in_order (standing_of shown) v.store.order) g) = refused_work shown h g v.store keeps.sound.store keeps.limit full.1 in
     let there = subst (λ (t : State). t.rules.nodes ≤ needed (in_order (standing_of t) v.store.order) (work_of (in_order (standing_of t) v.store.order) g)) c.self.view_is needs in
     let limit = keeps.limit ∙ h.limit ∙ ap (λ (t : State). t.rules.nodes) c.self.view_is in
