@@ -1,7 +1,6 @@
 -- What contracts see of a matrix that is kept as integers over decision diagrams, how it goes on, step by step, and how they keep it.
 use Rattle.std.specs.Prelude.{◌≡◌, ◌≤◌, ◌<◌, ℕ, ◌+◌, ◌*◌, List, [], ◌∷◌, ◌++◌, length, Result, Ok, Err}
 use Rattle.std.specs.List.{range_with_len}
-use Rattle.bit_lists.specs.Orders.{IsOrder}
 use Rattle.circuit_model.specs.Working.{Scaled}
 use Rattle.comparison.specs.Scalars.{Matrix}
 use Rattle.comparison.specs.Products.{Step, by_position, work_matrix, RawStepFits}
@@ -24,8 +23,8 @@ use Rattle.slice_gates.specs.declared.side.Side.TheVariants.{Rows, Columns}
 use Rattle.slice_gates.specs.Shown.{first_values, IsMatrixShown}
 use Rattle.slice_gates.specs.Sides.{place_on}
 use Rattle.slice_gates.specs.Stepped.{step_for}
-use Rattle.phases.specs.Phases.{Phase, ◌>>=◌, ◌>>◌, StopsWhere, Through}
-use Rattle.step_upkeep.specs.Due.{IsInForce}
+use Rattle.phases.specs.Phases.{Phase, ◌>>◌, StopsWhere, Through}
+use Rattle.step_upkeep.specs.Due.{IsInForce, IsLeft}
 use Rattle.step_upkeep.specs.Stored.{stored_functions}
 use Rattle.unitary_update.specs.declared.accepted.MatrixStep.{MatrixStep}
 use Rattle.unitary_update.specs.declared.accepted.MatrixStep.TheVariants.{Left, Right}
@@ -93,9 +92,9 @@ IsStored s = needed s (stored_of s) ≤ s.rules.nodes
 abbrev pub IsNextOrder : Standing → List ℕ → Type 0
 IsNextOrder s order = IsInForce s.rules.sift (length s.steps) (stored_of s) s.rules.nodes s.order order
 
--- the order after the answer to a step; after want of memory it may be any order of the variables
+-- the order after the answer to a step; after want of memory it may be any order of the variables where a sift was due
 abbrev pub Reorders : Standing → Result (Unit {0}) Stop → List ℕ → Type 0
-Reorders s (Err OutOfMemory) order = IsOrder order × (length order ≡ length s.order)
+Reorders s (Err OutOfMemory) order = IsLeft s.rules.sift (length s.steps) s.order order
 Reorders s _ order = IsNextOrder s order
 
 -- the step is accepted, and then the matrix stands by r
@@ -118,10 +117,14 @@ Applies s t (Err (Width number)) = (number ≡ length s.steps + 1) × ¬ RawStep
 Applies s t (Err (Nodes number order full)) = (number ≡ length s.steps + 1) × LacksNodes s t order full
 Applies s t (Err OutOfMemory) = ⊥
 
--- the identity takes three nodes a qubit, and stops exactly where these are more than the rules allow; then the steps come one after the other
+-- the identity takes three nodes a qubit, and stops exactly where these are more than the rules allow
+abbrev pub Starts : Settings → ℕ → Phase (Unit {0}) Stop
+Starts rules n = StopsWhere (rules.nodes < 3 * n) (Nodes 0 (range_with_len 0 (2 * n)) rules.nodes)
+
+-- the identity is multiplied by one step after the other
 abbrev pub Multiplies : Settings → ℕ → List Step → Phase Standing Stop
 Multiplies rules n steps = do
-  StopsWhere (rules.nodes < 3 * n) (Nodes 0 (range_with_len 0 (2 * n)) rules.nodes)
+  Starts rules n
   Through Applies (begun n rules) steps
 
 -- ---- a kept matrix
