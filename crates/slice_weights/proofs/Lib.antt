@@ -5,6 +5,7 @@ pub mod Weighed
 pub mod Known
 pub mod Gathering
 pub mod Outcomes
+pub mod Asked
 pub mod Ways
 pub mod Turns
 pub mod CountsAt
