@@ -15,9 +15,10 @@ use Rattle.comparison.specs.Steps.{steps_of}
 use Rattle.comparison.specs.Verdicts.{IsVerdict}
 use Rattle.equivalence.specs.Stops.{AllStepsStored, IsUnfitAt, StopMeans}
 use Rattle.phases.specs.Phases.{Phase, ◌>>=◌, ◌>>◌, StopsWhere, Told}
-use Rattle.sliq_engine.specs.declared.cause.Cause.{Cause}
-use Rattle.sliq_engine.specs.declared.cause.Cause.TheVariants.{Done, Differs, Nodes}
-use Rattle.sliq_engine.specs.Steps.{Reads, SameQubits, cause_of, Output, Writes}
+use Rattle.causes.specs.declared.cause.Cause.{Cause}
+use Rattle.causes.specs.declared.cause.Cause.TheVariants.{Done, Differs, Nodes}
+use Rattle.sliq_engine.specs.Steps.{Reads, SameQubits, Output, Writes}
+use Rattle.causes.specs.Stops.{cause_of}
 
 -- the identity on the circuit's qubits takes three nodes a qubit; it stops exactly where these are more than the rules allow
 abbrev pub Begins : Settings → Circuit → Phase (Unit {0}) Cause

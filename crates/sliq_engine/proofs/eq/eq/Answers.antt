@@ -7,13 +7,13 @@ use Rattle.comparison.specs.Products.{AllStepsFit}
 use Rattle.comparison.specs.Steps.{steps_of}
 use Rattle.comparison.proofs.Verdicts.{verdict-short}
 use Rattle.equivalence.specs.Stops.{AllStepsStored, StopMeans}
-use Rattle.sliq_engine.specs.declared.output.SendStop.{SendStop}
-use Rattle.sliq_engine.specs.declared.cause.Cause.{Cause}
-use Rattle.sliq_engine.specs.Steps.{SameQubits, cause_of}
+use Rattle.outputs.specs.declared.output.SendStop.{SendStop}
+use Rattle.causes.specs.declared.cause.Cause.{Cause}
+use Rattle.sliq_engine.specs.Steps.{SameQubits}
+use Rattle.causes.specs.Stops.{cause_of, cause_of_sending}
 use Rattle.sliq_engine.specs.Eq.{Compares}
 use Rattle.sliq_engine.specs.Ending.{MayEnd, MayStopBy}
-use Rattle.sliq_engine.specs.Private.{cause_of_sending}
-use Rattle.sliq_engine.proofs.EqLemmas.{eq_refused, eq_refused_second, eq_unlike, eq_halts, eq_stops, eq_done, eq_differs}
+use Rattle.sliq_engine.proofs.EqExits.{eq_refused, eq_refused_second, eq_unlike, eq_halts, eq_stops, eq_done, eq_differs}
 use Rattle.sliq_engine.proofs.eq.eq.Goals as goal
 
 pub returns-in_err-u-clause-stop : goal.returns-in_err-u-clause-stop
