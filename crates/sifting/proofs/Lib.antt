@@ -3,3 +3,7 @@ pub mod Levels
 pub mod Keeps
 pub mod Reached
 pub mod Turns
+pub mod Pairs
+pub mod Orphans
+pub mod Freed
+pub mod Lowered
