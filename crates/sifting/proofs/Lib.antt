@@ -6,3 +6,7 @@ pub mod Turns
 pub mod Moved
 pub mod SiftedOrders
 pub mod SameFunctions
+pub mod Pairs
+pub mod Orphans
+pub mod Freed
+pub mod Lowered

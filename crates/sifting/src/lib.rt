@@ -5,6 +5,7 @@ mod all;
 mod back;
 mod laws;
 mod least;
+mod ranks;
 mod shifts;
 mod sift;
 mod ways;
