@@ -1,10 +1,8 @@
 -- Lists of events, event by event.
 use Rattle.std.proofs.Common.{◌≡◌, ℕ, zero, suc, ◌+◌, ◌<◌, ◌≤◌, Bool, List, [], ◌∷◌, ◌++◌, Result, Ok, Err, length, get_or, take, inl, inr, refl, sym, ◌∙◌, ap, subst, arith, length-append, append_assoc, append-nil}
-use Rattle.std.specs.Prelude.{flat_map, IfOk, IfErr, OnOk}
-use Rattle.std.proofs.lemmas.Grind.{flat_map-append}
+use Rattle.std.specs.Prelude.{IfOk, IfErr, OnOk}
 use Rattle.std.proofs.lemmas.List.{take_more}
 use Rattle.gate_set.specs.declared.gate.Gate.{Gate}
-use Rattle.amp_dense.specs.Rules.{Settings}
 use Rattle.amp_dense.specs.Standing.{Standing, vector}
 use Rattle.circuit_model.specs.Working.{work}
 use Rattle.amp_dense.specs.declared.stop.Stop.{Stop}

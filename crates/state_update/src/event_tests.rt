@@ -3,7 +3,7 @@ ghost use Rattle.std.specs.Prelude.{◌≡◌, ◌≤◌, All, length};
 ghost use Rattle.state_update.specs.Events.{IsWithin};
 
 use crate::tests::{ONE, fresh, refused_at};
-use crate::{Event, Report, SlicedState};
+use crate::{Event, Report};
 use amp_dense::{Amplitudes, DenseState, Rules, Stop};
 use bit_lists::Bits;
 use gate_set::{Gate, Kind};

@@ -1,8 +1,7 @@
 //! Upkeep of the diagrams of a state.
-ghost use Rattle.std.specs.Prelude.{◌≡◌, ◌+◌, ◌<◌, length, IfOk, IfErr};
+ghost use Rattle.std.specs.Prelude.{◌+◌, ◌<◌, length, IfOk, IfErr};
 ghost use Rattle.slice_quad.specs.Vectors.{Stands};
 ghost use Rattle.state_update.specs.declared.events.Event.TheVariants as events;
-ghost use Rattle.state_update.specs.declared.events.Report.TheVariants as reports;
 ghost use Rattle.state_update.specs.Events.{KeepsNodes, Upkeeps, UpkeepStops};
 
 use crate::events::Report;

@@ -1,10 +1,9 @@
 //! Events on a state: gates, and upkeep of its diagrams.
-ghost use Rattle.std.specs.Prelude.{◌≡◌, ◌+◌, ◌<◌, ◌≤◌, ◌^◌, ◌++◌, ◌∷◌, [], All, length, take, IfOk, IfErr, OnOk};
+ghost use Rattle.std.specs.Prelude.{◌≡◌, ◌+◌, ◌<◌, ◌≤◌, ◌^◌, ◌++◌, All, length, take, IfOk, IfErr, OnOk};
 ghost use Rattle.circuit_model.specs.Working.{work};
 ghost use Rattle.amp_dense.specs.Standing.{vector};
 ghost use Rattle.gate_set.specs.Shape.{IsOn};
 ghost use Rattle.state_update.specs.declared.events.Event.TheVariants as events;
-ghost use Rattle.state_update.specs.declared.events.Report.TheVariants as reports;
 ghost use Rattle.state_update.specs.Kept.{standing_of};
 ghost use Rattle.state_update.specs.Events.{IsWithin, gate_of, gates_of, Reports, EventStops, IsAfter, Runs, Stops};
 

@@ -1,10 +1,10 @@
-use Rattle.std.proofs.Common.{rules, ◌≡◌, List, All, Err, refl, sym, ◌∙◌, subst}
+use Rattle.std.proofs.Common.{rules, ◌≡◌, List, All, Err, sym, ◌∙◌, subst}
 use Rattle.amp_dense.specs.declared.stop.Stop.TheVariants as stops
 use Rattle.diagram_model.specs.Stores.{IsLive}
 use Rattle.node_store.specs.declared.node.Node.{Node}
 use Rattle.sifting.specs.Answers.{IsSifted}
 use Rattle.sifting.specs.Sifts.{IsTidy, sift_of}
-use Rattle.state_update.specs.Events.{KeepsNodes, nodes_in}
+use Rattle.state_update.specs.Events.{nodes_in}
 use Rattle.state_update.proofs.NodesKept.{nodes_are, live_in, same_kept, sift_kept}
 use Rattle.state_update.proofs.node_upkeep.sift_one.Goals as goal
 
