@@ -9,10 +9,10 @@ ghost use Rattle.amp_printer.specs.Texts.{state_line, count_line};
 ghost use Rattle.outputs.specs.Listing.{vector_output, listing_of, number_listed, has_no_entry, entry_line};
 
 use amp_dense::Amplitudes;
-use amp_printer::{Counted, count_line, state_line};
+use amp_printer::{Counted, ListingLine, count_line};
 use bit_lists::{Bits, OutOfMemory};
 use outside::{Buffered, Failed, Sink};
-use ring_omega::{Quad, lowest};
+use ring_omega::Quad;
 use std::alloc::Global;
 
 /// Why the output was not written whole.
@@ -86,8 +86,9 @@ fn send_nonzero<A: Amplitudes, K: Sink>(
     let mut states = 0;
     let mut walk = state.walk(alloc)?;
     let mut next = state.advance(&mut walk)?;
+    let mut line = ListingLine::new();
     'states: while let Some(found) = next {
-        send_state(out, waiting, &found.0, found.1, k)?;
+        send_state(out, waiting, &mut line, &found.0, found.1, k)?;
         states += 1;
         next = state.advance(&mut walk)?;
     }
@@ -110,9 +111,11 @@ pub fn send_count<K: Sink>(
     waiting.put(out, line.as_bytes())
 }
 
+// Sends the line of a basis state, which is written over that of the one before.
 fn send_state<K: Sink>(
     out: &mut K,
     waiting: &mut Buffered,
+    line: &mut ListingLine,
     x: &Bits,
     q: Quad,
     k: u32,
@@ -123,7 +126,6 @@ fn send_state<K: Sink>(
     ensures fault { OnErr result (Rose (K.faults out.old) (K.faults out.new)) }
     ensures counts { K.faults out.old ≤ K.faults out.new }
 {
-    let (p, j) = lowest(q, k);
-    let line = state_line(x, p, j);
+    line.change(x, q, k);
     waiting.put(out, line.as_bytes())
 }
