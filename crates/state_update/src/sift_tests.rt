@@ -44,8 +44,8 @@ fn expect_same(rt: &impl Abort, one: &SlicedState, other: &SlicedState)
     requires other { length other.now.input ≡ 6 }
 {
     assert_eq!(rt; one.exponent(), other.exponent());
-    for place in 0..64u128 {
-        let x = Bits::at_place(place, 6);
+    for place in 0..64usize {
+        let x = Bits::at_place(place as u128, 6);
         assert_eq!(rt; one.entry(&x), other.entry(&x));
     }
 }

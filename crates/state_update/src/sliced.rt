@@ -22,8 +22,8 @@ pub struct SlicedState {
     input: Bits,
     rules: Rules,
     gates: Vec<Gate>,
-    diagrams: Diagrams,
-    quad: SliceQuad,
+    pub(crate) diagrams: Diagrams,
+    pub(crate) quad: SliceQuad,
 }
 
 impl Model for SlicedState {
@@ -170,7 +170,7 @@ impl Amplitudes for SlicedState {
     }
 
     fn advance(&self, walk: &mut Walk) -> Result<Option<(Bits, Quad)>, OutOfMemory> {
-        walk.advance(&self.diagrams, &self.quad.four)
+        walk.advance(&self.diagrams, &self.quad)
     }
 
     fn last_nonzero(&self, alloc: Global) -> Result<Option<Bits>, OutOfMemory> {

@@ -1,5 +1,4 @@
-use Rattle.std.proofs.Common.{ap, sym, ◌∙◌, length, None, subst}
-use Rattle.std.specs.List.{range_with_len}
+use Rattle.std.proofs.Common.{length, None, subst}
 use Rattle.circuit_model.specs.Working.{work}
 use Rattle.amp_dense.specs.Nonzero as amplitudes
 use Rattle.slice_quad.specs.Nonzero.{NoneAfter}
@@ -7,11 +6,6 @@ use Rattle.slice_quad.specs.Walks.{entries_in}
 use Rattle.state_update.specs.Kept.{State}
 use Rattle.state_update.proofs.StateLemmas.{state_with, last_is, none_is, ok_some, ok_none}
 use Rattle.state_update.proofs.sliced.SlicedStateAmplitudes.last_nonzero.Goals as goal
-
-pub last_nonzero-requires-clause-natural : goal.last_nonzero-requires-clause-natural
-last_nonzero-requires-clause-natural c =
-    let s = c.self.inside in
-    c.self.invariant.order ∙ ap (range_with_len 0) (sym c.self.invariant.variables)
 
 pub returns-clause-found : goal.returns-clause-found
 returns-clause-found c =
