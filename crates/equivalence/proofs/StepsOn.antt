@@ -1,5 +1,5 @@
 -- Each step of a comparison is one on the circuits' qubits.
-use Rattle.std.proofs.Common.{ℕ, ◌+◌, ◌*◌, ◌≤◌, nat_le, Bool, true, false, cond, List, [], ◌∷◌, map, length, All}
+use Rattle.std.proofs.Common.{ℕ, ◌+◌, ◌*◌, nat_le, Bool, true, false, cond, List, [], ◌∷◌, map, length, All}
 use Rattle.std.proofs.lemmas.List.Elements.{All-nil, All-cons, All-map, All-weaker}
 use Rattle.gate_set.specs.declared.gate.Gate.{Gate}
 use Rattle.gate_set.specs.Shape.{IsOn}

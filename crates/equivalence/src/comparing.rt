@@ -52,6 +52,7 @@ fn multiplied(
     requires few_vs { length vs.now ≤ 1000000 }
     requires on_us { All (IsOn qubits) us.now }
     requires on_vs { All (IsOn qubits) vs.now }
+    ensures qubits { IfOk result (λ m. m.qubits ≡ qubits) }
     ensures comes { IfOk result (λ m. Multiplies rules.now qubits (steps_of us.now vs.now) (Ok (standing_of m))) }
     ensures stop { IfErr result (MayStop (Multiplies rules.now qubits (steps_of us.now vs.now))) }
 {

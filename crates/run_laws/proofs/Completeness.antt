@@ -6,16 +6,18 @@ use Rattle.gate_set.specs.declared.gate.Gate.{Gate}
 use Rattle.gate_set.specs.Shape.{IsOn}
 use Rattle.circuit_model.specs.Working.{work, RawFits, AllFit}
 use Rattle.circuit_model.proofs.PrefixLemmas.{first_failing-apart}
-use Rattle.comparison.specs.Products.{RawStepFits, AllStepsFit}
+use Rattle.comparison.specs.Products.{gate_of, AllStepsFit}
 use Rattle.comparison.specs.Steps.{steps_of}
-use Rattle.phases.specs.Phases.{Phase, GoesOn, ◌>>=◌, StopsWhere, HasSomeEnd}
+use Rattle.phases.specs.Phases.{Phase, GoesOn, ◌>>=◌, StopsWhere, Told, HasSomeEnd}
 use Rattle.amp_dense.specs.Rules.{Settings}
 use Rattle.amp_dense.specs.Standing.{begun, Walks}
 use Rattle.amp_dense.specs.declared.stop.Stop.{Stop}
 use Rattle.amp_dense.specs.declared.stop.Stop.TheVariants as stops
 use Rattle.amp_dense.proofs.Walking.{walk_unfit, none_unfit}
 use Rattle.state_update.specs.Kept.{sliced_policy}
-use Rattle.equivalence.proofs.Enough.{identity_room}
+use Rattle.unitary_update.specs.Kept.{Standing as MatrixStanding, Multiplies}
+use Rattle.unitary_update.proofs.Chains.{never_stops, all_come}
+use Rattle.equivalence.proofs.StepsOn.{steps_on}
 use Rattle.qasm_reader.specs.Reading.{ReadsAs, circuit, refusal}
 use Rattle.qasm_reader.proofs.OneReading.{one_reading}
 use Rattle.demo_text.specs.Generator.{demo_text}
@@ -23,15 +25,16 @@ use Rattle.demo_reads.specs.Drawn.{drawn_circuit}
 use Rattle.demo_reads.proofs.Whole.{demo_is_read}
 use Rattle.causes.specs.declared.cause.Cause.{Cause}
 use Rattle.causes.specs.declared.cause.Cause.TheVariants.{Done, WeightTooWide}
+use Rattle.causes.specs.Stops.{cause_of}
 use Rattle.sliq_engine.specs.Steps.{Reads, SameQubits, zeros, Simulates, Output}
 use Rattle.sliq_engine.specs.Sim.{input_for, sim_output, Sims}
 use Rattle.sliq_engine.specs.Prob.{IsHeavy, prob_output, Weighs}
 use Rattle.sliq_engine.specs.Demo.{demo_output, Demonstrates}
-use Rattle.sliq_engine.specs.Eq.{Begins, MultipliesBy, Multiplies, Says, Compares}
+use Rattle.sliq_engine.specs.Eq.{Says, Compares}
 use Rattle.run_laws.specs.Laws.{IsNoFault, ComesTo}
 use Rattle.run_laws.proofs.SomeEnds.{read_on}
-use Rattle.run_laws.proofs.EnoughNodes.{walk_has_nodes, read_same, enough_for, identity_has_nodes, steps_have_nodes}
-use Rattle.run_laws.proofs.EqEnds.{read_first, read_second, some_multiplies}
+use Rattle.run_laws.proofs.EnoughNodes.{walk_has_nodes, read_same, enough_for}
+use Rattle.run_laws.proofs.EqEnds.{read_first, read_second}
 use Rattle.run_laws.proofs.SimEnds.{some_sims}
 use Rattle.run_laws.proofs.ProbEnds.{some_weighs}
 use Rattle.run_laws.proofs.DemoEnds.{some_demonstrates}
@@ -125,37 +128,25 @@ module _ (rules : Settings) (wide : 2 ≤ rules.width) (one two : List ℕ) (u v
   on_v : All (IsOn u.qubits) v.gates
   on_v = read_second one two u v first second same
 
-  multiplies_never : NeverStops (Multiplies rules u v)
-  multiplies_never cause h = by h.0 h.1
-    where
-      by : (stop : Stop) → MultipliesBy rules u.qubits (steps_of u.gates v.gates) (Err stop) → ⊥
-      by (stops.Width number) w = first_failing-apart (RawStepFits rules.width u.qubits) (steps_of u.gates v.gates) number w.0 fits
-      by (stops.Nodes number order held) w = steps_have_nodes rules u v on_u on_v limit (stops.Nodes number order held) w
-      by stops.OutOfMemory w = w
+  on : All (λ s. IsOn u.qubits (gate_of s)) (steps_of u.gates v.gates)
+  on = steps_on u.qubits u.gates v.gates on_u on_v
+
+  multiplies_never : NeverStops (Told cause_of (Multiplies rules u.qubits (steps_of u.gates v.gates)))
+  multiplies_never cause h = never_stops rules u.qubits (steps_of u.gates v.gates) on limit fits h.0 h.1
 
   -- so it is multiplied by all steps
-  multiplies : Multiplies rules u v (Ok tt)
-  multiplies = by some.0 some.1
-    where
-      room : 3 * u.qubits ≤ rules.nodes
-      room = identity_room rules.width u.qubits rules.nodes limit
-
-      some : HasSomeEnd IsNoFault (Multiplies rules u v)
-      some = some_multiplies rules u v wide room on_u on_v
-
-      by : (end : Result (Unit {0}) Cause) → Multiplies rules u v end → Multiplies rules u v (Ok tt)
-      by (Ok _) h = h
-      by (Err cause) h = absurd (multiplies_never cause h)
+  came : (m : MatrixStanding) × Multiplies rules u.qubits (steps_of u.gates v.gates) (Ok m)
+  came = all_come rules u.qubits (steps_of u.gates v.gates) on limit wide fits
 
   only_says : EndsBy (Says u v) (Compares rules one two)
   only_says =
       behind_reading (Says u v) 1 one u _ first
       (behind_reading (Says u v) 2 two v _ second
       (behind_same (Says u v) u.qubits v.qubits _ same
-      (behind (Says u v) (Begins rules u) _ (λ cause h. identity_has_nodes rules u.qubits limit h.0) (λ _ _. behind (Says u v) (Multiplies rules u v) _ multiplies_never (λ _ _ end h. h)))))
+      (behind (Says u v) (Told cause_of (Multiplies rules u.qubits (steps_of u.gates v.gates))) _ multiplies_never (λ _ _ end h. h))))
 
   says : EndsBy (Compares rules one two) (Says u v)
-  says end h = (Ok u, first, (Ok v, second, (Ok tt, (λ other. other same), (Ok tt, identity_has_nodes rules u.qubits limit, (Ok tt, multiplies, h)))))
+  says end h = (Ok u, first, (Ok v, second, (Ok tt, (λ other. other same), (Ok came.0, came.1, h))))
 
   pub eq_comes : (end : Result Output Cause) → Compares rules one two end ↔ Says u v end
   eq_comes end = (only_says end, says end)

@@ -18,7 +18,9 @@ use Rattle.amp_dense.specs.declared.stop.Stop.TheVariants as stops
 use Rattle.state_update.specs.Kept.{sliced_policy}
 use Rattle.state_update.proofs.Enough.{enough}
 use Rattle.state_update.proofs.Orders.{is_next_order}
-use Rattle.equivalence.proofs.Enough as comparisons
+use Rattle.unitary_update.specs.Kept.{Multiplies}
+use Rattle.unitary_update.proofs.Chains.{IsWidth, only_width}
+use Rattle.equivalence.proofs.StepsOn.{steps_on}
 use Rattle.qasm_reader.specs.Reading.{ReadsAs, circuit}
 use Rattle.qasm_reader.proofs.OneReading.{one_reading}
 use Rattle.demo_text.specs.Generator.{demo_text}
@@ -31,7 +33,7 @@ use Rattle.causes.specs.Stops.{cause_of}
 use Rattle.sliq_engine.specs.Sim.{input_for, Sims}
 use Rattle.sliq_engine.specs.Prob.{IsHeavy, Weighs}
 use Rattle.sliq_engine.specs.Demo.{Demonstrates}
-use Rattle.sliq_engine.specs.Eq.{Begins, MultipliesBy, Multiplies, Says, Compares}
+use Rattle.sliq_engine.specs.Eq.{Says, Compares}
 use Rattle.run_laws.specs.Laws.{NeverLacksNodes}
 use Rattle.run_laws.proofs.EqEnds.{read_first, read_second}
 use Rattle.run_laws.proofs.SomeEnds.{same_number, read_on}
@@ -168,21 +170,20 @@ module _ (rules : Settings) (q n seed : ℕ) (some : 1 ≤ q) (le : q ≤ 64) (f
   demo_has_nodes step order held h = demo_stops (Nodes step order held) h
 
 -- ---- the comparison
--- the identity has its nodes
-pub identity_has_nodes : (rules : Settings) (n : ℕ) → (64 * (rules.width + 2) + 130) * 2 ^ (2 * n) ≤ rules.nodes → ¬ (rules.nodes < 3 * n)
-identity_has_nodes rules n limit lacks = let room = comparisons.identity_room rules.width n rules.nodes limit in omega (arith, room, lacks)
-
--- and so have the steps
+-- steps stop for no other reason than the width
 pub steps_have_nodes : (rules : Settings) (u v : Circuit) → All (IsOn u.qubits) u.gates → All (IsOn u.qubits) v.gates → (64 * (rules.width + 2) + 130) * 2 ^ (2 * u.qubits) ≤ rules.nodes
-    → StopsBy IsOtherStop (MultipliesBy rules u.qubits (steps_of u.gates v.gates))
-steps_have_nodes rules u v on_u on_v limit (stops.Width number) h = tt
-steps_have_nodes rules u v on_u on_v limit (stops.Nodes number order held) h = comparisons.enough rules u.qubits u.gates v.gates on_u on_v limit number order held h
-steps_have_nodes rules u v on_u on_v limit stops.OutOfMemory h = h
+    → StopsBy IsOtherStop (Multiplies rules u.qubits (steps_of u.gates v.gates))
+steps_have_nodes rules u v on_u on_v limit stop h = by stop (only_width rules u.qubits (steps_of u.gates v.gates) (steps_on u.qubits u.gates v.gates on_u on_v) limit stop h)
+  where
+    by : (stop : Stop) → IsWidth stop → IsOtherStop stop
+    by (stops.Width number) is = tt
+    by (stops.Nodes number order held) is = is
+    by stops.OutOfMemory is = is
 
 module _ (rules : Settings) (one two : List ℕ) (u : Circuit) (reads : ReadsAs one 64 (circuit u)) (limit : (64 * (rules.width + 2) + 130) * 2 ^ (2 * u.qubits) ≤ rules.nodes) where
-  multiplies_stops : (v : Circuit) → Reads 2 two (Ok v) → u.qubits ≡ v.qubits → StopsBy IsOther (Multiplies rules u v)
+  multiplies_stops : (v : Circuit) → Reads 2 two (Ok v) → u.qubits ≡ v.qubits → StopsBy IsOther (Told cause_of (Multiplies rules u.qubits (steps_of u.gates v.gates)))
   multiplies_stops v second same =
-      by_telling IsOther cause_of (MultipliesBy rules u.qubits (steps_of u.gates v.gates))
+      by_telling IsOther cause_of (Multiplies rules u.qubits (steps_of u.gates v.gates))
       (steps_have_nodes rules u v (read_first one two u v reads second same) (read_second one two u v reads second same) limit)
 
   -- what is said is written
@@ -194,8 +195,7 @@ module _ (rules : Settings) (one two : List ℕ) (u : Circuit) (reads : ReadsAs 
       by_reading_of 1 one u _ reads
       (by_reading 2 two _
       (λ v second. by_same u.qubits v.qubits _
-      (λ same. by_both IsOther (Begins rules u) _ (λ cause h. absurd (identity_has_nodes rules u.qubits limit h.0))
-      (λ _ _. by_both IsOther (Multiplies rules u v) _ (multiplies_stops v second same) (λ _ _. says_stops v)))))
+      (λ same. by_both IsOther (Told cause_of (Multiplies rules u.qubits (steps_of u.gates v.gates))) _ (multiplies_stops v second same) (λ _ _. says_stops v))))
 
   pub eq_has_nodes : NeverLacksNodes (Compares rules one two)
   eq_has_nodes step order held h = eq_stops (Nodes step order held) h

@@ -1,12 +1,9 @@
 -- `eq` has one end, and which cause it is.
-use Rattle.std.proofs.Common.{◌≡◌, inl, inr, ◌↔◌, ℕ, suc, ◌*◌, ◌<◌, ◌≤◌, List, Result, Ok, Err, All, refl, sym, ◌∙◌, ap, subst, arith}
-use Rattle.std.specs.List.{range_with_len}
-use Rattle.std.proofs.lemmas.Bool.{cases_lt}
+use Rattle.std.proofs.Common.{◌≡◌, ◌↔◌, ℕ, ◌≤◌, List, Result, Ok, Err, All, refl, sym, ◌∙◌, ap, subst, arith}
 use Rattle.ring_omega.specs.declared.quad.Quad.{Quad}
 use Rattle.gate_set.specs.Circuits.{Circuit, IsCircuit}
 use Rattle.gate_set.specs.Shape.{IsOn}
 use Rattle.circuit_model.specs.Product.{exponent}
-use Rattle.circuit_model.proofs.PrefixLemmas.{first_failing-apart, one_first_failing}
 use Rattle.amp_dense.specs.Rules.{Settings}
 use Rattle.amp_dense.specs.declared.stop.Stop.{Stop}
 use Rattle.amp_dense.specs.declared.stop.Stop.TheVariants as stops
@@ -14,72 +11,57 @@ use Rattle.amp_printer.specs.declared.verdict.Verdict.{Verdict}
 use Rattle.amp_printer.specs.declared.verdict.Verdict.TheVariants as verdicts
 use Rattle.amp_printer.specs.Verdicts.{verdict_text}
 use Rattle.comparison.specs.Scalars.{AreSame, comparison, compared}
-use Rattle.comparison.specs.Products.{Step, RawStepFits}
 use Rattle.comparison.specs.Steps.{steps_of}
 use Rattle.comparison.specs.Verdicts.{IsVerdict}
 use Rattle.comparison.proofs.Verdicts.{one_verdict, some_verdict, scalar_told}
-use Rattle.equivalence.proofs.StepEnds.{Outcome, outcome}
-use Rattle.phases.specs.Phases.{HasOneEnd, HasSomeEnd}
-use Rattle.phases.proofs.Ends.{one_after, one_stops_where, one_told, some_after, some_stops_where}
+use Rattle.unitary_update.specs.Kept.{Standing, Multiplies}
+use Rattle.unitary_update.proofs.Chains as chains
+use Rattle.equivalence.proofs.StepsOn.{steps_on}
+use Rattle.phases.specs.Phases.{Phase, Told, HasOneEnd, HasSomeEnd}
+use Rattle.phases.proofs.Ends.{one_after, one_told, some_after, some_told}
 use Rattle.qasm_reader.proofs.Sound.{read_is_circuit}
 use Rattle.causes.specs.declared.cause.Cause.{Cause}
-use Rattle.causes.specs.declared.cause.Cause.TheVariants.{Done, Differs, Width, Nodes}
+use Rattle.causes.specs.declared.cause.Cause.TheVariants.{Done, Differs}
 use Rattle.sliq_engine.specs.Steps.{Reads, SameQubits, Output, Writes}
 use Rattle.causes.specs.Stops.{cause_of}
-use Rattle.sliq_engine.specs.Eq.{Begins, MultipliesBy, Multiplies, told_by, Says, Compares}
+use Rattle.sliq_engine.specs.Eq.{told_by, Says, Compares}
 use Rattle.run_laws.specs.Laws.{IsNoFault, IsSure}
 use Rattle.run_laws.proofs.SomeEnds.{some_behind, same_number}
 use Rattle.run_laws.proofs.StepEnds.{one_reads, some_reads, one_same, some_same}
 
--- ---- one end
-one_multiplies_by : (rules : Settings) (n : ℕ) (steps : List Step) → HasOneEnd (λ stop. IsSure (cause_of stop)) (MultipliesBy rules n steps)
-one_multiplies_by rules n steps (Ok a) (Ok b) p q s t = refl
-one_multiplies_by rules n steps (Ok a) (Err (stops.Width j)) p q s t = absurd (first_failing-apart (RawStepFits rules.width n) steps j q.0 p.0)
-one_multiplies_by rules n steps (Ok a) (Err (stops.Nodes j order held)) p q s t = absurd t
-one_multiplies_by rules n steps (Ok a) (Err stops.OutOfMemory) p q s t = absurd q
-one_multiplies_by rules n steps (Err (stops.Width i)) (Ok b) p q s t = absurd (first_failing-apart (RawStepFits rules.width n) steps i p.0 q.0)
-one_multiplies_by rules n steps (Err (stops.Width i)) (Err (stops.Width j)) p q s t =
-    ap (λ (k : ℕ). let w : Stop = stops.Width k in let e : Result (Unit {0}) Stop = Err w in e) (one_first_failing (RawStepFits rules.width n) steps i j p.0 q.0)
-one_multiplies_by rules n steps (Err (stops.Width i)) (Err (stops.Nodes j order held)) p q s t = absurd t
-one_multiplies_by rules n steps (Err (stops.Width i)) (Err stops.OutOfMemory) p q s t = absurd q
-one_multiplies_by rules n steps (Err (stops.Nodes i order held)) b p q s t = absurd s
-one_multiplies_by rules n steps (Err stops.OutOfMemory) b p q s t = absurd p
+-- the steps of a comparison, whose stops are told as causes
+abbrev Steps : Settings → Circuit → Circuit → Phase Standing Cause
+Steps rules u v = Told cause_of (Multiplies rules u.qubits (steps_of u.gates v.gates))
 
-one_multiplies : (rules : Settings) (u v : Circuit) → HasOneEnd IsSure (Multiplies rules u v)
+-- ---- one end
+one_multiplies : (rules : Settings) (u v : Circuit) → HasOneEnd IsSure (Steps rules u v)
 one_multiplies rules u v =
-    one_told IsSure cause_of (MultipliesBy rules u.qubits (steps_of u.gates v.gates)) (one_multiplies_by rules u.qubits (steps_of u.gates v.gates))
+    let steps = steps_of u.gates v.gates in
+    one_told IsSure cause_of (Multiplies rules u.qubits steps) (chains.one_multiplies (λ stop. IsSure (cause_of stop)) (λ number order held sure. sure) rules u.qubits steps)
 
 one_says : (u v : Circuit) → HasOneEnd IsSure (Says u v)
 one_says u v a b p q s t =
     let same = one_verdict u.qubits (compared u.gates v.gates) (exponent (comparison u.gates v.gates)) p.0 q.0 p.1 q.1 in
     p.2 ∙ ap (λ (w : Verdict). let o : Output = record { cause = told_by w; bytes = verdict_text w } in let r : Result Output Cause = Ok o in r) same ∙ sym q.2
 
-one_begins : (rules : Settings) (u : Circuit) → HasOneEnd IsSure (Begins rules u)
-one_begins rules u = one_stops_where IsSure (rules.nodes < 3 * u.qubits) (Nodes 0 (range_with_len 0 (2 * u.qubits)) rules.nodes)
-
 pub one_compares : (rules : Settings) (one two : List ℕ) → HasOneEnd IsSure (Compares rules one two)
 one_compares rules one two =
     one_after IsSure _ _ (one_reads 1 one)
     (λ u. one_after IsSure _ _ (one_reads 2 two)
     (λ v. one_after IsSure _ _ (one_same u.qubits v.qubits)
-    (λ _. one_after IsSure _ _ (one_begins rules u)
-    (λ _. one_after IsSure _ _ (one_multiplies rules u v) (λ _. one_says u v)))))
+    (λ _. one_after IsSure _ _ (one_multiplies rules u v) (λ _. one_says u v))))
 
 -- ---- some end
-some_begins : (rules : Settings) (u : Circuit) → HasSomeEnd IsNoFault (Begins rules u)
-some_begins rules u =
-    some_stops_where IsNoFault (rules.nodes < 3 * u.qubits) (Nodes 0 (range_with_len 0 (2 * u.qubits)) rules.nodes) tt
-    (elim (cases_lt rules.nodes (3 * u.qubits)) [ inl few ↦ inl few | inr room ↦ inr (λ few. omega (arith, room, few)) ])
+stop_told : (stop : Stop) → IsNoFault (cause_of stop)
+stop_told (stops.Width number) = tt
+stop_told (stops.Nodes number order held) = tt
+stop_told stops.OutOfMemory = tt
 
-pub some_multiplies : (rules : Settings) (u v : Circuit) → 2 ≤ rules.width → 3 * u.qubits ≤ rules.nodes → All (IsOn u.qubits) u.gates → All (IsOn u.qubits) v.gates → HasSomeEnd IsNoFault (Multiplies rules u v)
-some_multiplies rules u v wide room on_u on_v = by (outcome rules u.qubits wide room u.gates v.gates on_u on_v)
-  where
-    by : Outcome rules u.qubits (steps_of u.gates v.gates) → HasSomeEnd IsNoFault (Multiplies rules u v)
-    by (inl all) = (Ok tt, all, tt)
-    by (inr (inl unfit)) = (Err (Width unfit.0), (stops.Width unfit.0, unfit.1, refl), tt)
-    by (inr (inr lacks)) =
-        let order = range_with_len 0 (2 * u.qubits) in
-        (Err (Nodes (suc lacks.0) order rules.nodes), (stops.Nodes (suc lacks.0) order rules.nodes, (refl, refl, lacks.1), refl), tt)
+some_multiplies : (rules : Settings) (u v : Circuit) → 2 ≤ rules.width → All (IsOn u.qubits) u.gates → All (IsOn u.qubits) v.gates → HasSomeEnd IsNoFault (Steps rules u v)
+some_multiplies rules u v wide on_u on_v =
+    let steps = steps_of u.gates v.gates in
+    some_told IsNoFault cause_of (Multiplies rules u.qubits steps)
+    (chains.some_multiplies (λ stop. IsNoFault (cause_of stop)) stop_told rules u.qubits steps wide (steps_on u.qubits u.gates v.gates on_u on_v))
 
 some_says : (u v : Circuit) → HasSomeEnd IsNoFault (Says u v)
 some_says u v =
@@ -99,13 +81,10 @@ some_compares rules one two wide =
     some_behind IsNoFault (Reads 1 one) _ (some_reads 1 one)
     (λ u first. some_behind IsNoFault (Reads 2 two) _ (some_reads 2 two)
     (λ v second. some_behind IsNoFault (SameQubits u.qubits v.qubits) _ (some_same u.qubits v.qubits)
-    (λ _ alike. some_behind IsNoFault (Begins rules u) _ (some_begins rules u)
-    (λ _ room. some_after IsNoFault _ _ (multiplied u v first second (same_number u.qubits v.qubits alike) room) (λ _. some_says u v)))))
+    (λ _ alike. some_after IsNoFault _ _ (multiplied u v first second (same_number u.qubits v.qubits alike)) (λ _. some_says u v))))
   where
-    multiplied : (u v : Circuit) → Reads 1 one (Ok u) → Reads 2 two (Ok v) → u.qubits ≡ v.qubits → ¬ (rules.nodes < 3 * u.qubits) → HasSomeEnd IsNoFault (Multiplies rules u v)
-    multiplied u v first second same room =
-        some_multiplies rules u v wide (elim (cases_lt rules.nodes (3 * u.qubits)) [ inl few ↦ absurd (room few) | inr enough ↦ enough ])
-        (read_first one two u v first second same) (read_second one two u v first second same)
+    multiplied : (u v : Circuit) → Reads 1 one (Ok u) → Reads 2 two (Ok v) → u.qubits ≡ v.qubits → HasSomeEnd IsNoFault (Steps rules u v)
+    multiplied u v first second same = some_multiplies rules u v wide (read_first one two u v first second same) (read_second one two u v first second same)
 
 -- ---- which cause
 abbrev cause_in : Result Output Cause → Cause

@@ -1,26 +1,26 @@
 -- How `eq` ends, exit by exit.
-use Rattle.std.proofs.Common.{◌≡◌, inl, inr, ℕ, zero, suc, ◌*◌, ◌≤◌, List, Option, Result, Ok, refl, sym, ap, ap₂, arith}
+use Rattle.std.proofs.Common.{◌≡◌, inl, inr, ℕ, List, Option, Result, Ok, Err, refl, sym, ap}
 use Rattle.gate_set.specs.Circuits.{Circuit}
 use Rattle.circuit_model.specs.Product.{exponent}
 use Rattle.amp_dense.specs.Rules.{Settings}
 use Rattle.amp_dense.specs.declared.stop.Stop.{Stop}
 use Rattle.amp_dense.specs.declared.stop.Stop.TheVariants as stops
+use Rattle.amp_dense.specs.Standing.{MayStop}
 use Rattle.amp_printer.specs.declared.verdict.Verdict.{Verdict}
 use Rattle.amp_printer.specs.Verdicts.{verdict_text}
 use Rattle.comparison.specs.Scalars.{comparison, compared}
-use Rattle.comparison.specs.Products.{AllStepsFit}
 use Rattle.comparison.specs.Steps.{steps_of}
 use Rattle.comparison.specs.Verdicts.{IsVerdict}
-use Rattle.equivalence.specs.Stops.{AllStepsStored, StopMeans}
+use Rattle.unitary_update.specs.Kept.{Standing, Multiplies}
 use Rattle.outside.specs.Bytes.{Added, AddedSome}
-use Rattle.phases.specs.Phases.{◌>>=◌}
+use Rattle.phases.specs.Phases.{◌>>=◌, Told}
 use Rattle.outputs.specs.declared.output.SendStop.{SendStop}
 use Rattle.outputs.specs.declared.output.SendStop.TheVariants as sends
 use Rattle.causes.specs.declared.cause.Cause.{Cause}
-use Rattle.causes.specs.declared.cause.Cause.TheVariants.{Done, Differs, Width, Nodes}
+use Rattle.causes.specs.declared.cause.Cause.TheVariants.{Done, Differs}
 use Rattle.sliq_engine.specs.Steps.{Reads, SameQubits, Output}
 use Rattle.causes.specs.Stops.{cause_of, cause_of_sending}
-use Rattle.sliq_engine.specs.Eq.{Begins, Multiplies, told_by, Says, Compares}
+use Rattle.sliq_engine.specs.Eq.{told_by, Says, Compares}
 use Rattle.sliq_engine.specs.Ending.{MayEnd, MayStopBy}
 use Rattle.sliq_engine.proofs.Endings.{ends_first, ends_after}
 
@@ -44,35 +44,26 @@ module _ (rules : Settings) (one two : List ℕ) where
           (ends_first (SameQubits u.qubits v.qubits) _ cause out h))
 
       module _ (same : u.qubits ≡ v.qubits) where
-        -- the phases before the identity are passed
-        passed : (cause : Cause) (old new : Option (List ℕ)) → MayEnd (Begins rules u >>= (λ _. Multiplies rules u v >>= (λ _. Says u v))) cause old new
+        -- the phases before the steps are passed
+        passed : (cause : Cause) (old new : Option (List ℕ)) → MayEnd (Told cause_of (Multiplies rules u.qubits (steps_of u.gates v.gates)) >>= (λ _. Says u v)) cause old new
             → MayEnd (Compares rules one two) cause old new
         passed cause old new h =
             ends_after (Reads 1 one) _ u cause old new first
             (ends_after (Reads 2 two) _ v cause old new second
             (ends_after (SameQubits u.qubits v.qubits) _ tt cause old new (λ ne. ne same) h))
 
-        module _ (room : 3 * u.qubits ≤ rules.nodes) where
-          -- the identity has its nodes
-          begun : (cause : Cause) (old new : Option (List ℕ)) → MayEnd (Multiplies rules u v >>= (λ _. Says u v)) cause old new → MayEnd (Compares rules one two) cause old new
-          begun cause old new h = passed cause old new (ends_after (Begins rules u) _ tt cause old new (λ few. omega (arith, room, few)) h)
+        halted : (stop : Stop) (out : Option (List ℕ)) → Multiplies rules u.qubits (steps_of u.gates v.gates) (Err stop) → MayEnd (Compares rules one two) (cause_of stop) out out
+        halted stop out h = passed (cause_of stop) out out (ends_first (Told cause_of (Multiplies rules u.qubits (steps_of u.gates v.gates))) _ (cause_of stop) out (stop, h, refl))
 
         -- a step doesn't fit, or there are too few nodes, or memory was wanted
-        pub eq_halts : (stop : Stop) (out : Option (List ℕ)) → StopMeans rules u.qubits (steps_of u.gates v.gates) stop → MayEnd (Compares rules one two) (cause_of stop) out out
-        eq_halts (stops.Width step) out h =
-            begun h.0 (Width step) out out (ends_first (Multiplies rules u v) _ (Width step) out (stops.Width step, h.1, refl))
-        eq_halts (stops.Nodes zero order held) out h =
-            passed (Nodes 0 order held) out out
-            (ends_first (Begins rules u) _ (Nodes 0 order held) out (h.2, ap₂ (λ (o : List ℕ) (k : ℕ). Nodes 0 o k) h.0 h.1))
-        eq_halts (stops.Nodes (suc before) order held) out h =
-            begun h.2.0 (Nodes (suc before) order held) out out
-            (ends_first (Multiplies rules u v) _ (Nodes (suc before) order held) out (stops.Nodes (suc before) order held, h, refl))
+        pub eq_halts : (stop : Stop) (out : Option (List ℕ)) → MayStop (Multiplies rules u.qubits (steps_of u.gates v.gates)) stop → MayEnd (Compares rules one two) (cause_of stop) out out
+        eq_halts (stops.Width step) out h = halted (stops.Width step) out h
+        eq_halts (stops.Nodes step order held) out h = halted (stops.Nodes step order held) out h
         eq_halts stops.OutOfMemory out h = inl refl
 
-        module _ (room : 3 * u.qubits ≤ rules.nodes) (fits : AllStepsFit rules.width u.qubits (steps_of u.gates v.gates) × AllStepsStored rules u.qubits (steps_of u.gates v.gates)) (verdict : Verdict)
-            (is : IsVerdict u.qubits (compared u.gates v.gates) (exponent (comparison u.gates v.gates)) verdict) where
+        module _ (came : (m : Standing) × Multiplies rules u.qubits (steps_of u.gates v.gates) (Ok m)) (verdict : Verdict) (is : IsVerdict u.qubits (compared u.gates v.gates) (exponent (comparison u.gates v.gates)) verdict) where
           ended : (cause : Cause) (old new : Option (List ℕ)) → MayEnd (Says u v) cause old new → MayEnd (Compares rules one two) cause old new
-          ended cause old new h = begun room cause old new (ends_after (Multiplies rules u v) _ tt cause old new fits h)
+          ended cause old new h = passed cause old new (ends_after (Told cause_of (Multiplies rules u.qubits (steps_of u.gates v.gates))) _ came.0 cause old new came.1 h)
 
           abbrev output : Output
           output = record { cause = told_by verdict; bytes = verdict_text verdict }

@@ -1,6 +1,8 @@
-use Rattle.std.proofs.Common.{◌≡◌, ℕ, List, All, Ok, sym, subst}
+use Rattle.std.proofs.Common.{rules, ◌≡◌, ℕ, List, All, Ok, Err, sym, subst}
 use Rattle.std.proofs.Math.Path.{ap₂}
 use Rattle.gate_set.specs.Shape.{IsOn}
+use Rattle.amp_dense.specs.declared.stop.Stop.{Stop}
+use Rattle.amp_dense.specs.Standing.{MayStop}
 use Rattle.comparison.specs.Products.{Step}
 use Rattle.comparison.specs.Steps.{steps_of}
 use Rattle.unitary_update.specs.Kept.{standing_of, Multiplies}
@@ -24,3 +26,13 @@ returns-clause-comes c =
     let steps : steps_of c.gates-us.result.now c.gates-vs.result.now ≡ steps_of u.gates v.gates = ap₂ steps_of c.gates-us.ensures.value c.gates-vs.ensures.value in
     let P : ℕ → List Step → Type 0 = λ n l. Multiplies c.args.rules.now n l (Ok m) in
     (m, subst (λ n. P n (steps_of u.gates v.gates)) c.qubits-qubits.ensures.value (subst (λ l. P c.qubits-qubits.result l) steps c.in_ok-matrix.ensures.comes))
+
+pub returns-in_err-matrix-clause-stop : goal.returns-in_err-matrix-clause-stop
+returns-in_err-matrix-clause-stop c =
+    let u = c.args.u.now in
+    let v = c.args.v.now in
+    let stop : Stop = c.in_err-matrix.field-0.0 in
+    let told : c.from_residual.result ≡ Err stop = search rules in
+    let steps : steps_of c.gates-us.result.now c.gates-vs.result.now ≡ steps_of u.gates v.gates = ap₂ steps_of c.gates-us.ensures.value c.gates-vs.ensures.value in
+    let P : ℕ → List Step → Type 0 = λ n l. MayStop (Multiplies c.args.rules.now n l) stop in
+    rw told (subst (λ n. P n (steps_of u.gates v.gates)) c.qubits-qubits.ensures.value (subst (λ l. P c.qubits-qubits.result l) steps c.in_err-matrix.ensures.stop))

@@ -1,4 +1,4 @@
-use Rattle.std.proofs.Common.{rules, Ok, Err, ◌≡◌, ◌+◌, ◌<◌, ℕ, List, length, take, drop, ap, sym, refl, ◌∙◌, subst, arith}
+use Rattle.std.proofs.Common.{rules, Ok, Err, ◌≡◌, ◌+◌, ℕ, List, length, take, drop, ap, sym, refl, ◌∙◌, subst, arith}
 use Rattle.std.proofs.Math.Path.{ap₂}
 use Rattle.std.proofs.Math.Seq.{take-length}
 use Rattle.gate_set.specs.declared.gate.Gate.{Gate}
@@ -57,6 +57,10 @@ steps-preserved c =
 whole : (us vs : List Gate) (t : ℕ) → t ≡ length us + length vs → take t (steps_of us vs) ≡ steps_of us vs
 whole us vs t e = ap (λ k. take k (steps_of us vs)) (e ∙ sym (length-steps_of us vs)) ∙ take-length (steps_of us vs)
 
+pub returns-clause-qubits : goal.returns-clause-qubits
+returns-clause-qubits c =
+    (multiplied c.args.rules.now c.args.qubits (take c.steps._step (steps_of c.args.us.now c.args.vs.now)) (standing_of c.steps.matrix) c.steps.invariant.after).qubits
+
 pub returns-clause-comes : goal.returns-clause-comes
 returns-clause-comes c =
     let e : c.steps._step ≡ length c.args.us.now + length c.args.vs.now = search rules in
@@ -66,7 +70,7 @@ returns-clause-comes c =
 pub returns-in_err-matrix-clause-stop : goal.returns-in_err-matrix-clause-stop
 returns-in_err-matrix-clause-stop c =
     let stop : Stop = c.in_err-matrix.field-0.0 in
-    let told : c.from_residual-in_err-matrix.result ≡ Err stop = search rules in
+    let told : c.from_residual.result ≡ Err stop = search rules in
     rw told (starts c.args.qubits c.args.rules.now (steps_of c.args.us.now c.args.vs.now) stop c.in_err-matrix.ensures.stops)
 
 pub returns-in_err-multiply-clause-stop : goal.returns-in_err-multiply-clause-stop
