@@ -1,4 +1,5 @@
-use Rattle.std.proofs.Common.{rules, ◌≡◌, ℕ, Bool, List, Err, Ok, length, false, sym, ◌∙◌, ap, subst}
+use Rattle.std.proofs.Common.{rules, ◌≡◌, ◌<◌, ℕ, Bool, List, Err, Ok, length, replicate, false, sym, ◌∙◌, ap, subst, arith, map}
+use Rattle.std.proofs.lemmas.Int.{ints}
 use Rattle.std.proofs.lemmas.List.{length-replicate, length-map}
 use Rattle.gate_set.specs.Circuits.{Circuit}
 use Rattle.amp_dense.specs.Standing.{Standing, begun, vector}
