@@ -52,13 +52,14 @@ module _ (rules : Settings) (one two : List ℕ) where
             (ends_after (Reads 2 two) _ v cause old new second
             (ends_after (SameQubits u.qubits v.qubits) _ tt cause old new (λ ne. ne same) h))
 
-        halted : (stop : Stop) (out : Option (List ℕ)) → Multiplies rules u.qubits (steps_of u.gates v.gates) (Err stop) → MayEnd (Compares rules one two) (cause_of stop) out out
-        halted stop out h = passed (cause_of stop) out out (ends_first (Told cause_of (Multiplies rules u.qubits (steps_of u.gates v.gates))) _ (cause_of stop) out (stop, h, refl))
+        -- a step's stop is told
+        halted : (cause : Cause) (out : Option (List ℕ)) → MayStopBy (Told cause_of (Multiplies rules u.qubits (steps_of u.gates v.gates))) cause → MayEnd (Compares rules one two) cause out out
+        halted cause out h = passed cause out out (ends_first (Told cause_of (Multiplies rules u.qubits (steps_of u.gates v.gates))) _ cause out h)
 
         -- a step doesn't fit, or there are too few nodes, or memory was wanted
         pub eq_halts : (stop : Stop) (out : Option (List ℕ)) → MayStop (Multiplies rules u.qubits (steps_of u.gates v.gates)) stop → MayEnd (Compares rules one two) (cause_of stop) out out
-        eq_halts (stops.Width step) out h = halted (stops.Width step) out h
-        eq_halts (stops.Nodes step order held) out h = halted (stops.Nodes step order held) out h
+        eq_halts (stops.Width step) out h = let stop : Stop = stops.Width step in halted (cause_of stop) out (stop, h, refl)
+        eq_halts (stops.Nodes step order held) out h = let stop : Stop = stops.Nodes step order held in halted (cause_of stop) out (stop, h, refl)
         eq_halts stops.OutOfMemory out h = inl refl
 
         module _ (came : (m : Standing) × Multiplies rules u.qubits (steps_of u.gates v.gates) (Ok m)) (verdict : Verdict) (is : IsVerdict u.qubits (compared u.gates v.gates) (exponent (comparison u.gates v.gates)) verdict) where
