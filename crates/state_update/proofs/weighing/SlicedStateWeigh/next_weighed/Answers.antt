@@ -1,5 +1,4 @@
 use Rattle.std.proofs.Common.{◌≡◌, length, sym, ◌∙◌, subst, OnOk}
-use Rattle.ring_omega.specs.declared.weight.Weight.{Weight}
 use Rattle.amp_dense.specs.Standing.{vector}
 use Rattle.diagram_ops.specs.Diagrams.{StoreAndCache}
 use Rattle.probabilities.specs.Weighing.{IsNarrow}
