@@ -2,6 +2,7 @@
 use Rattle.std.proofs.Common.{◌≡◌, ◌≢◌, ℕ, Bool, true, false, List, length, Option, Some, None, IfSome, IfNone, refl, subst}
 use Rattle.std.specs.Option.{ForSome}
 use Rattle.ring_omega.specs.declared.quad.Quad.{Quad}
+use Rattle.ring_omega.specs.declared.weight.Weight.{Weight}
 use Rattle.ring_omega.specs.Ring.{is_zero, zero_quad}
 use Rattle.ring_omega.proofs.RingLemmas.{Decides-is_zero}
 use Rattle.circuit_model.specs.Working.{Scaled}
@@ -68,3 +69,10 @@ found_outcome measured w given (Some x) alike found none = record {
   };
   none = tt;
 }
+
+-- the same of a walk that gives the weight with it
+pub found_weighed : (measured : List Bool) (w : Scaled) (given : Option (List Bool)) (next : Option (List Bool × Weight)) → ForSome given (λ y. length y ≡ measured_count measured)
+    → IfSome next (λ e. IsNextOutcome measured w.entries given e.0) → IfNone next (NoOutcomeAfter measured w.entries given)
+    → IsFound (measured_count measured) (has_no_weight measured w) given (state_of next)
+found_weighed measured w given None alike found none = found_outcome measured w given None alike tt none
+found_weighed measured w given (Some e) alike found none = found_outcome measured w given (Some e.0) alike found tt

@@ -1,11 +1,12 @@
 //! The outcomes of a measurement, sent line by line through a buffer.
-ghost use Rattle.std.specs.Prelude.{◌≡◌, ◌≤◌, IfOk, length, OnOk, OnErr, IsErrOf};
+ghost use Rattle.std.specs.Prelude.{◌≡◌, ◌≤◌, Some, IfOk, IfSome, IfNone, length, OnOk, OnErr, IsErrOf};
 ghost use Rattle.outside.specs.Outside.{Rose};
 ghost use Rattle.outside.specs.Bytes.{Added, AddedSome};
 ghost use Rattle.outside.specs.Buffering.{Sent, SentSome};
 ghost use Rattle.amp_dense.specs.Standing.{vector};
 ghost use Rattle.probabilities.specs.Weighing.{total_weight, IsNarrow};
 ghost use Rattle.probabilities.specs.Outcomes.{measured_count, outcome_weight};
+ghost use Rattle.probabilities.specs.Possible.{IsNextOutcome, NoOutcomeAfter};
 ghost use Rattle.outputs.specs.Listing.{listing_of, number_listed};
 ghost use Rattle.outputs.specs.Outcomes.{has_no_weight, lowest_line, outcome_line, outcomes_output};
 
@@ -13,7 +14,7 @@ use crate::output::{SendStop, send_count};
 use amp_printer::{Counted, weight_line};
 use bit_lists::{Bits, OutOfMemory};
 use outside::{Buffered, Failed, Sink};
-use probabilities::{Weigh, WeighStop, fixed_to, measured_count};
+use probabilities::{Weigh, WeighStop, measured_count};
 use ring_omega::{Weight, lowest_weight};
 use std::alloc::Global;
 
@@ -61,30 +62,34 @@ fn send_weighed<A: Weigh, K: Sink>(
 {
     let k = state.exponent();
     let mut outcomes = 0;
-    let mut next = state.next_outcome(alloc, measured, None)?;
-    'outcomes: while let Some(y) = next {
-        let w = weigh_outcome(alloc, measured, state, &y)?;
-        send_outcome(out, waiting, &y, w, k)?;
+    let mut walk = state.outcomes(alloc, measured)?;
+    let mut next = next_weighed(alloc, measured, state, &mut walk)?;
+    'outcomes: while let Some(found) = next {
+        send_outcome(out, waiting, &found.0, found.1, k)?;
         outcomes += 1;
-        next = state.next_outcome(alloc, measured, Some(&y))?;
+        next = next_weighed(alloc, measured, state, &mut walk)?;
     }
     Ok(outcomes)
 }
 
-// The weight of an outcome. It isn't too wide, since all states together aren't.
-fn weigh_outcome<A: Weigh>(
+// The next outcome of the walk, with its weight. It isn't too wide, since that of all states together isn't.
+fn next_weighed<A: Weigh>(
     alloc: Global,
     measured: &Bits,
     state: &A,
-    y: &Bits,
-) -> Result<Weight, OutOfMemory>
+    walk: &mut A::Outcomes,
+) -> Result<Option<(Bits, Weight)>, OutOfMemory>
     requires size { length (A.standing state.now).input ≡ length measured.now }
     requires light { IsNarrow (total_weight (length measured.now) (vector (A.standing state.now)).entries) }
-    requires outcome { length y.now ≡ measured_count measured.now }
-    ensures { IfOk result (λ w. w ≡ outcome_weight measured.now (vector (A.standing state.now)).entries y.now) }
+    requires weighs { A.weighs state.now measured.now walk.old }
+    ensures found { IfOk result (λ next. IfSome next (λ e. IsNextOutcome measured.now (vector (A.standing state.now)).entries (A.last_outcome walk.old) e.0)) }
+    ensures weight { IfOk result (λ next. IfSome next (λ e. e.1 ≡ outcome_weight measured.now (vector (A.standing state.now)).entries e.0)) }
+    ensures none { IfOk result (λ next. IfNone next (NoOutcomeAfter measured.now (vector (A.standing state.now)).entries (A.last_outcome walk.old))) }
+    ensures weighs { OnOk result (A.weighs state.now measured.now walk.new) }
+    ensures at { IfOk result (λ next. IfSome next (λ e. A.last_outcome walk.new ≡ Some e.0)) }
 {
-    match state.weigh(alloc, &fixed_to(measured, y)) {
-        Ok(w) => Ok(w),
+    match state.next_weighed(alloc, measured, walk) {
+        Ok(next) => Ok(next),
         Err(WeighStop::TooWide) => unreachable!(),
         Err(WeighStop::OutOfMemory) => Err(OutOfMemory),
     }
