@@ -17,7 +17,7 @@ use Rattle.phases.specs.Phases.{◌>>=◌, Told}
 use Rattle.outputs.specs.declared.output.SendStop.{SendStop}
 use Rattle.outputs.specs.declared.output.SendStop.TheVariants as sends
 use Rattle.causes.specs.declared.cause.Cause.{Cause}
-use Rattle.causes.specs.declared.cause.Cause.TheVariants.{Done, Differs}
+use Rattle.causes.specs.declared.cause.Cause.TheVariants.{Done, Differs, Width, Nodes}
 use Rattle.sliq_engine.specs.Steps.{Reads, SameQubits, Output}
 use Rattle.causes.specs.Stops.{cause_of, cause_of_sending}
 use Rattle.sliq_engine.specs.Eq.{told_by, Says, Compares}
@@ -52,13 +52,13 @@ module _ (rules : Settings) (one two : List ℕ) where
             (ends_after (Reads 2 two) _ v cause old new second
             (ends_after (SameQubits u.qubits v.qubits) _ tt cause old new (λ ne. ne same) h))
 
-        halted : (stop : Stop) (out : Option (List ℕ)) → Multiplies rules u.qubits (steps_of u.gates v.gates) (Err stop) → MayEnd (Compares rules one two) (cause_of stop) out out
-        halted stop out h = passed (cause_of stop) out out (ends_first (Told cause_of (Multiplies rules u.qubits (steps_of u.gates v.gates))) _ (cause_of stop) out (stop, h, refl))
-
         -- a step doesn't fit, or there are too few nodes, or memory was wanted
         pub eq_halts : (stop : Stop) (out : Option (List ℕ)) → MayStop (Multiplies rules u.qubits (steps_of u.gates v.gates)) stop → MayEnd (Compares rules one two) (cause_of stop) out out
-        eq_halts (stops.Width step) out h = halted (stops.Width step) out h
-        eq_halts (stops.Nodes step order held) out h = halted (stops.Nodes step order held) out h
+        eq_halts (stops.Width step) out h =
+            passed (Width step) out out (ends_first (Told cause_of (Multiplies rules u.qubits (steps_of u.gates v.gates))) _ (Width step) out (stops.Width step, h, refl))
+        eq_halts (stops.Nodes step order held) out h =
+            passed (Nodes step order held) out out
+            (ends_first (Told cause_of (Multiplies rules u.qubits (steps_of u.gates v.gates))) _ (Nodes step order held) out (stops.Nodes step order held, h, refl))
         eq_halts stops.OutOfMemory out h = inl refl
 
         module _ (came : (m : Standing) × Multiplies rules u.qubits (steps_of u.gates v.gates) (Ok m)) (verdict : Verdict) (is : IsVerdict u.qubits (compared u.gates v.gates) (exponent (comparison u.gates v.gates)) verdict) where
