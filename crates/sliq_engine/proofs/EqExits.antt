@@ -17,7 +17,7 @@ use Rattle.phases.specs.Phases.{◌>>=◌, Told}
 use Rattle.outputs.specs.declared.output.SendStop.{SendStop}
 use Rattle.outputs.specs.declared.output.SendStop.TheVariants as sends
 use Rattle.causes.specs.declared.cause.Cause.{Cause}
-use Rattle.causes.specs.declared.cause.Cause.TheVariants.{Done, Differs, Width, Nodes}
+use Rattle.causes.specs.declared.cause.Cause.TheVariants.{Done, Differs}
 use Rattle.sliq_engine.specs.Steps.{Reads, SameQubits, Output}
 use Rattle.causes.specs.Stops.{cause_of, cause_of_sending}
 use Rattle.sliq_engine.specs.Eq.{told_by, Says, Compares}
@@ -52,14 +52,15 @@ module _ (rules : Settings) (one two : List ℕ) where
             (ends_after (Reads 2 two) _ v cause old new second
             (ends_after (SameQubits u.qubits v.qubits) _ tt cause old new (λ ne. ne same) h))
 
+        halted : (stop : Stop) → MayStop (Multiplies rules u.qubits (steps_of u.gates v.gates)) stop → MayStopBy (Told cause_of (Multiplies rules u.qubits (steps_of u.gates v.gates))) (cause_of stop)
+        halted (stops.Width step) h = (stops.Width step, h, refl)
+        halted (stops.Nodes step order held) h = (stops.Nodes step order held, h, refl)
+        halted stops.OutOfMemory h = tt
+
         -- a step doesn't fit, or there are too few nodes, or memory was wanted
         pub eq_halts : (stop : Stop) (out : Option (List ℕ)) → MayStop (Multiplies rules u.qubits (steps_of u.gates v.gates)) stop → MayEnd (Compares rules one two) (cause_of stop) out out
-        eq_halts (stops.Width step) out h =
-            passed (Width step) out out (ends_first (Told cause_of (Multiplies rules u.qubits (steps_of u.gates v.gates))) _ (Width step) out (stops.Width step, h, refl))
-        eq_halts (stops.Nodes step order held) out h =
-            passed (Nodes step order held) out out
-            (ends_first (Told cause_of (Multiplies rules u.qubits (steps_of u.gates v.gates))) _ (Nodes step order held) out (stops.Nodes step order held, h, refl))
-        eq_halts stops.OutOfMemory out h = inl refl
+        eq_halts stop out h =
+            passed (cause_of stop) out out (ends_first (Told cause_of (Multiplies rules u.qubits (steps_of u.gates v.gates))) _ (cause_of stop) out (halted stop h))
 
         module _ (came : (m : Standing) × Multiplies rules u.qubits (steps_of u.gates v.gates) (Ok m)) (verdict : Verdict) (is : IsVerdict u.qubits (compared u.gates v.gates) (exponent (comparison u.gates v.gates)) verdict) where
           ended : (cause : Cause) (old new : Option (List ℕ)) → MayEnd (Says u v) cause old new → MayEnd (Compares rules one two) cause old new
