@@ -13,8 +13,6 @@ pub use laws::{each_gate_has_an_end, enough_nodes, upkeep_keeps_entries};
 pub use sliced::SlicedState;
 
 #[cfg(test)]
-mod event_tests;
-#[cfg(test)]
 mod limit_tests;
 #[cfg(test)]
 mod long_tests;
