@@ -146,3 +146,9 @@ gates_up_to (x ∷ list) zero e lt here =
 gates_up_to (x ∷ list) (suc i) e lt here =
     let rest = gates_up_to list i e (omega (arith, lt)) here in
     omega (arith, rest, length-append (gate_of x) (gates_of list), length-append (gate_of x) (gates_of (take i list)))
+
+-- a list has no more gates than events
+pub gates_few : (es : List Event) → length (gates_of es) ≤ length es
+gates_few [] = omega arith
+gates_few (events.Gate g ∷ es) = let rest = gates_few es in omega (arith, rest)
+gates_few (_ ∷ es) = let rest = gates_few es in omega (arith, rest)

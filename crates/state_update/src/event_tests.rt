@@ -3,7 +3,7 @@ ghost use Rattle.std.specs.Prelude.{◌≡◌, ◌≤◌, All, length};
 ghost use Rattle.state_update.specs.Events.{IsWithin};
 
 use crate::tests::{ONE, fresh, refused_at};
-use crate::{Event, Report};
+use crate::{Event, EventStop, Report, SlicedState};
 use amp_dense::{Amplitudes, DenseState, Rules, Stop};
 use bit_lists::Bits;
 use gate_set::{Gate, Kind};
@@ -64,11 +64,28 @@ fn entries<A: Amplitudes>(state: &A) -> [Quad; 4]
     ]
 }
 
+/// Runs a list of events on a state that accepted no gate yet.
+#[tactic(auto, using(crate::proofs::RunLemmas::gates_few))]
+fn run(
+    rt: &impl Abort,
+    alloc: Global,
+    state: &mut SlicedState,
+    list: &[Event],
+) -> Result<Vec<Report>, EventStop>
+    requires within { All (IsWithin (length state.old.input)) list.now }
+    requires few { length list.now ≤ 5 }
+    ensures { state.new.input ≡ state.old.input }
+{
+    let accepted = state.accepted();
+    assert!(rt; accepted == 0);
+    let answer = state.run_events(alloc, list);
+    answer
+}
+
 /// Applies the gate of an event, if it is one.
 fn apply_gate_of(rt: &impl Abort, alloc: Global, state: &mut DenseState, e: &Event)
-    requires two { length state.old.input ≡ 2 }
-    requires within { IsWithin 2 e.now }
-    ensures { length state.new.input ≡ 2 }
+    requires { IsWithin (length state.old.input) e.now }
+    ensures { state.new.input ≡ state.old.input }
 {
     if let Event::Gate(gate) = e {
         assert_eq!(rt; refused_at(alloc, state, gate), 0);
@@ -81,32 +98,56 @@ fn expect_gates_alone(rt: &impl Abort, alloc: Global, list: &[Event])
     requires few { length list.now ≤ 3 }
 {
     let mut state = fresh(rt, alloc, 2, &Rules::usual());
-    assert!(rt; state.accepted() == 0);
-    let Ok(reports) = state.run_events(alloc, list) else {
+    let Ok(reports) = run(rt, alloc, &mut state, list) else {
         panic!(rt; "stopped");
     };
     assert_eq!(rt; reports.len(), list.len());
-    let Ok(mut plain) = DenseState::start(alloc, &Bits::zeros(2), &Rules::usual()) else {
+    let Ok(mut plain) = DenseState::start(alloc, &two_bits(false, false), &Rules::usual()) else {
         panic!(rt; "no memory");
     };
-    for e in list {
+    'events: for e in list {
         apply_gate_of(rt, alloc, &mut plain, e);
     }
     assert_eq!(rt; entries(&state), entries(&plain));
     assert_eq!(rt; state.exponent(), plain.exponent());
 }
 
+fn expect_one(rt: &impl Abort, alloc: Global, a: Event)
+    requires { IsWithin 2 a }
+{
+    expect_gates_alone(rt, alloc, &[a]);
+}
+
+fn expect_two(rt: &impl Abort, alloc: Global, a: Event, b: Event)
+    requires a { IsWithin 2 a }
+    requires b { IsWithin 2 b }
+{
+    expect_gates_alone(rt, alloc, &[a, b]);
+}
+
+fn expect_three(rt: &impl Abort, alloc: Global, a: Event, b: Event, c: Event)
+    requires a { IsWithin 2 a }
+    requires b { IsWithin 2 b }
+    requires c { IsWithin 2 c }
+{
+    expect_gates_alone(rt, alloc, &[a, b, c]);
+}
+
 #[test]
 fn lists_of_up_to_three_events(rt: HostRuntime) {
     let alloc = rt.alloc();
-    expect_gates_alone(&rt, alloc, &[]);
     for a in 0..8u8 {
-        expect_gates_alone(&rt, alloc, &[event(alloc, a)]);
+        expect_one(&rt, alloc, event(alloc, a));
         for b in 0..8u8 {
-            expect_gates_alone(&rt, alloc, &[event(alloc, a), event(alloc, b)]);
+            expect_two(&rt, alloc, event(alloc, a), event(alloc, b));
             for c in 0..8u8 {
-                let list = [event(alloc, a), event(alloc, b), event(alloc, c)];
-                expect_gates_alone(&rt, alloc, &list);
+                expect_three(
+                    &rt,
+                    alloc,
+                    event(alloc, a),
+                    event(alloc, b),
+                    event(alloc, c),
+                );
             }
         }
     }
@@ -116,15 +157,16 @@ fn lists_of_up_to_three_events(rt: HostRuntime) {
 fn upkeep_events(rt: HostRuntime) {
     let alloc = rt.alloc();
     let mut state = fresh(&rt, alloc, 1, &Rules::usual());
-    assert!(rt; state.accepted() == 0);
+    let first = hadamard(alloc);
+    let last = hadamard(alloc);
     let list = [
-        hadamard(alloc),
+        first,
         Event::Reclaim,
         Event::ForgetCache,
         Event::SiftAll,
-        hadamard(alloc),
+        last,
     ];
-    let Ok(reports) = state.run_events(alloc, &list) else {
+    let Ok(reports) = run(&rt, alloc, &mut state, &list) else {
         panic!(rt; "stopped");
     };
     assert_eq!(rt; reports.len(), 5);
@@ -140,11 +182,12 @@ fn upkeep_events(rt: HostRuntime) {
 fn upkeep_swap(rt: HostRuntime) {
     let alloc = rt.alloc();
     let mut state = fresh(&rt, alloc, 2, &Rules::usual());
-    let hadamard = Gate::new(alloc, Kind::H, &[0]);
-    let controlled = Gate::new(alloc, Kind::Cx, &[0, 1]);
-    assert_eq!(rt; refused_at(alloc, &mut state, &hadamard), 0);
-    assert_eq!(rt; refused_at(alloc, &mut state, &controlled), 0);
-    assert!(rt; state.accepted() == 2);
+    let first = Gate::new(alloc, Kind::H, &[0]);
+    let second = Gate::new(alloc, Kind::Cx, &[0, 1]);
+    assert_eq!(rt; refused_at(alloc, &mut state, &first), 0);
+    assert_eq!(rt; refused_at(alloc, &mut state, &second), 0);
+    let accepted = state.accepted();
+    assert!(rt; accepted == 2);
     let (d, _) = state.parts();
     assert!(rt; d.cached() >= 1);
     let before = entries(&state);
@@ -167,14 +210,10 @@ fn width_inside_a_list(rt: HostRuntime) {
         sift: 0,
     };
     let mut state = fresh(&rt, alloc, 2, &rules);
-    assert!(rt; state.accepted() == 0);
-    let list = [
-        hadamard(alloc),
-        Event::Swap(0),
-        hadamard(alloc),
-        Event::Reclaim,
-    ];
-    let Err(stop) = state.run_events(alloc, &list) else {
+    let first = hadamard(alloc);
+    let second = hadamard(alloc);
+    let list = [first, Event::Swap(0), second, Event::Reclaim];
+    let Err(stop) = run(&rt, alloc, &mut state, &list) else {
         panic!(rt; "not stopped");
     };
     assert_eq!(rt; stop.at, 2);
