@@ -3,6 +3,7 @@ use Rattle.std.specs.Prelude.{ℕ, Bool, List, ◌++◌, codes, decimal}
 use Rattle.std.specs.Fmt.{signed_decimal}
 use Rattle.ring_omega.specs.declared.quad.Quad.{Quad}
 use Rattle.ring_omega.specs.declared.weight.Weight.{Weight}
+use Rattle.ring_omega.specs.Lowest.{lowest_form}
 use Rattle.bit_lists.specs.Lists.{bits_text}
 use Rattle.amp_printer.specs.declared.counted.Counted.{Counted}
 use Rattle.amp_printer.specs.declared.counted.Counted.TheVariants.{Qubits, States, Measured, Outcomes, Gates, Exponent}
@@ -16,6 +17,10 @@ entry_text q k =
 -- the basis state x with the amplitude q/√2^k: `|BITS> ENTRY` and a line feed
 unfoldable pub state_line : List Bool → Quad → ℕ → List ℕ
 state_line x q k = codes "|" ++ bits_text x ++ codes "> " ++ entry_text q k ++ codes "\n"
+
+-- the basis state x with the lowest form of the amplitude q/√2^k
+abbrev pub lowest_line : List Bool → Quad → ℕ → List ℕ
+lowest_line x q k = state_line x (lowest_form q k).0 (lowest_form q k).1
 
 -- the outcome x with the probability w over the k-th power of 2: `BITS (A,B)/2^k` and a line feed
 unfoldable pub weight_line : List Bool → Weight → ℕ → List ℕ

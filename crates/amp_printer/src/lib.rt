@@ -4,6 +4,7 @@
 mod counted;
 mod entry;
 mod line;
+mod listing;
 mod outcome;
 #[cfg(test)]
 mod tests;
@@ -14,5 +15,6 @@ mod verdict_tests;
 pub use counted::{Counted, count_line};
 pub use entry::{entry_text, state_line};
 pub use line::Line;
+pub use listing::ListingLine;
 pub use outcome::weight_line;
 pub use verdict::{Verdict, verdict_text};

@@ -1,7 +1,8 @@
 //! A line of fixed room.
-ghost use Rattle.std.specs.Prelude.{◌≡◌, ◌≤◌, ◌+◌, ◌++◌, ◌∷◌, [], length, decimal};
+ghost use Rattle.std.specs.Prelude.{◌≡◌, ◌≤◌, ◌<◌, ◌+◌, ◌%◌, ◌++◌, ℕ, List, [], length, take, slice_set, decimal};
 ghost use Rattle.std.specs.Fmt.{signed_decimal};
 ghost use Rattle.bit_lists.specs.Lists.{bit_value, bits_text};
+ghost use Rattle.amp_printer.specs.Private.{line_with};
 
 use arrayvec::ArrayVec;
 use bit_lists::Bits;
@@ -73,6 +74,45 @@ impl Line {
             self.bytes.push(bit_byte(x.get(i)));
         }
     }
+
+    /// Writes other bits over those that stand behind the first byte: from the last bit back to the first one that differs.
+    pub(crate) fn change_bits(&mut self, before: &Bits, after: &Bits)
+        requires same { length before.now ≡ length after.now }
+        requires room { length after.now < length self.old }
+        ensures { (rest : List ℕ) → self.old ≡ line_with before.now rest → self.new ≡ line_with after.now rest }
+    {
+        let mut a = before.place();
+        let mut b = after.place();
+        let mut i = usize::from(after.len());
+        'bits: while a != b {
+            self.put(i, last_digit(b));
+            a /= 2;
+            b /= 2;
+            i -= 1;
+        }
+    }
+
+    /// Keeps the first bytes only.
+    pub(crate) fn truncate(&mut self, count: usize)
+        ensures { self.new ≡ take count self.old }
+    {
+        self.bytes.truncate(count);
+    }
+
+    // Writes a byte over the one at a place.
+    fn put(&mut self, i: usize, byte: u8)
+        requires { i < length self.old }
+        ensures { self.new ≡ slice_set self.old i byte }
+    {
+        self.bytes.as_mut_slice()[i] = byte;
+    }
+}
+
+// The digit of the last bit of the list at a place.
+fn last_digit(place: u128) -> u8
+    ensures { result ≡ 48 + place % 2 }
+{
+    b'0' + (place % 2) as u8
 }
 
 fn bit_byte(b: bool) -> u8

@@ -51,6 +51,34 @@ fn states(rt: HostRuntime) -> Result<(), Fail> {
 }
 
 #[test]
+fn listings(rt: HostRuntime) -> Result<(), Fail> {
+    let mut line = ListingLine::new();
+    assert_eq!(rt; line.as_bytes(), b"|> (0,0,0,0)/sqrt2^0\n".as_slice());
+    for (bits, q, k, want) in [
+        ("0011", quad(0, 0, 0, 1), 4, "|0011> (0,0,0,1)/sqrt2^4\n"),
+        ("0100", quad(0, 0, 0, 1), 4, "|0100> (0,0,0,1)/sqrt2^4\n"),
+        ("0100", quad(0, 0, 0, 1), 5, "|0100> (0,0,0,1)/sqrt2^5\n"),
+        ("1110", quad(0, 0, 0, 20), 5, "|1110> (0,0,0,5)/sqrt2^1\n"),
+        (
+            "1111",
+            quad(0, -7, 0, 20),
+            5,
+            "|1111> (0,-7,0,20)/sqrt2^5\n",
+        ),
+        ("0000", quad(0, 0, 1, 0), 5, "|0000> (0,0,1,0)/sqrt2^5\n"),
+        ("100", quad(0, 0, 1, 0), 5, "|100> (0,0,1,0)/sqrt2^5\n"),
+        ("", quad(0, 0, 0, -1), 0, "|> (0,0,0,-1)/sqrt2^0\n"),
+    ] {
+        let x = Bits::from_text(bits.as_bytes()).ok_or("no bits")?;
+        let short = x.len() <= 64;
+        assert!(rt; short);
+        line.change(&x, q, k);
+        assert_eq!(rt; line.as_bytes(), want.as_bytes());
+    }
+    Ok(())
+}
+
+#[test]
 fn weights(rt: HostRuntime) -> Result<(), Fail> {
     let ones = "1111111111111111111111111111111111111111111111111111111111111111";
     for (bits, a, b, k, want) in [

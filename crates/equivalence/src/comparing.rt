@@ -1,14 +1,13 @@
 //! The comparison of two circuits, step by step.
-ghost use Rattle.std.specs.Prelude.{◌≡◌, ◌*◌, ◌<◌, ◌≤◌, length, All, IfOk, OnOk, IfErr, OnErr};
+ghost use Rattle.std.specs.Prelude.{◌≡◌, ◌<◌, ◌≤◌, length, All, Ok, IfOk, OnOk, IfErr, OnErr};
 ghost use Rattle.gate_set.specs.Shape.{IsOn};
 ghost use Rattle.circuit_model.specs.Product.{exponent};
+ghost use Rattle.amp_dense.specs.Standing.{MayStop};
 ghost use Rattle.comparison.specs.Scalars.{comparison, compared};
-ghost use Rattle.comparison.specs.Products.{AllStepsFit};
 ghost use Rattle.comparison.specs.Sides.{step_of};
 ghost use Rattle.comparison.specs.Steps.{steps_of};
 ghost use Rattle.comparison.specs.Verdicts.{IsVerdict};
-ghost use Rattle.unitary_update.specs.Kept.{standing_of, Accepts, StopMeans as StepStopMeans};
-ghost use Rattle.equivalence.specs.Stops.{AllStepsStored, StopMeans};
+ghost use Rattle.unitary_update.specs.Kept.{Standing, standing_of, Accepts, Applies, Multiplies};
 
 use crate::verdict::scalar_of;
 use amp_dense::{Rules, Stop};
@@ -21,17 +20,15 @@ use unitary_update::SlicedMatrix;
 /// What is to be said of U·V† for two circuits on the same number of qubits, at most 64.
 ///
 /// A stop numbers the steps of the comparison from 1, left and right ones together. Where three nodes a qubit are more than the rules
-/// allow, it is `Nodes` with 0; at a step it is `Nodes` only where the step's work functions alone need at least as many as the rules
-/// allow. A step is passed only where the functions that the matrix is stored by after it need no more. What the steps cost depends on how
-/// many functions the bits of the matrix share.
+/// allow, it is `Nodes` with 0; at a step it is `Nodes` only where, in the order in force, the step's work functions alone need at least as
+/// many as the rules allow. A step is passed only where the functions that the matrix is stored by after it need no more. What the steps cost depends on how
+/// many functions the bits of the matrix share. Where the rules want sifts, the order in force changes at them.
 pub fn compare(alloc: Global, u: &Circuit, v: &Circuit, rules: &Rules) -> Result<Verdict, Stop>
     requires same { u.now.qubits ≡ v.now.qubits }
     requires small { u.now.qubits ≤ 64 }
     ensures verdict { IfOk result (IsVerdict u.now.qubits (compared u.now.gates v.now.gates) (exponent (comparison u.now.gates v.now.gates))) }
-    ensures fits { OnOk result (AllStepsFit rules.now.width u.now.qubits (steps_of u.now.gates v.now.gates)) }
-    ensures stored { OnOk result (AllStepsStored rules.now u.now.qubits (steps_of u.now.gates v.now.gates)) }
-    ensures room { OnOk result (3 * u.now.qubits ≤ rules.now.nodes) }
-    ensures stop { IfErr result (StopMeans rules.now u.now.qubits (steps_of u.now.gates v.now.gates)) }
+    ensures comes { OnOk result ((m : Standing) × Multiplies rules.now u.now.qubits (steps_of u.now.gates v.now.gates) (Ok m)) }
+    ensures stop { IfErr result (MayStop (Multiplies rules.now u.now.qubits (steps_of u.now.gates v.now.gates))) }
 {
     let qubits = u.qubits();
     let us = u.gates();
@@ -56,11 +53,8 @@ fn multiplied(
     requires on_us { All (IsOn qubits) us.now }
     requires on_vs { All (IsOn qubits) vs.now }
     ensures qubits { IfOk result (λ m. m.qubits ≡ qubits) }
-    ensures steps { IfOk result (λ m. m.steps ≡ steps_of us.now vs.now) }
-    ensures fits { OnOk result (AllStepsFit rules.now.width qubits (steps_of us.now vs.now)) }
-    ensures stored { OnOk result (AllStepsStored rules.now qubits (steps_of us.now vs.now)) }
-    ensures room { OnOk result (3 * qubits ≤ rules.now.nodes) }
-    ensures stop { IfErr result (StopMeans rules.now qubits (steps_of us.now vs.now)) }
+    ensures comes { IfOk result (λ m. Multiplies rules.now qubits (steps_of us.now vs.now) (Ok (standing_of m))) }
+    ensures stop { IfErr result (MayStop (Multiplies rules.now qubits (steps_of us.now vs.now))) }
 {
     let mut matrix = SlicedMatrix::identity(alloc, qubits, rules)?;
     let mut i = 0;
@@ -79,8 +73,7 @@ fn multiply(alloc: Global, matrix: &mut SlicedMatrix, turn: &Turn) -> Result<(),
     requires within { IsOn matrix.old.qubits turn.now.gate }
     requires few { length matrix.old.steps < 2000000 }
     ensures accepts { OnOk result (Accepts (standing_of matrix.old) (step_of turn.now.side turn.now.gate) (standing_of matrix.new)) }
-    ensures stops { IfErr result (StepStopMeans (standing_of matrix.old) (step_of turn.now.side turn.now.gate)) }
-    ensures refused { OnErr result (standing_of matrix.new ≡ standing_of matrix.old) }
+    ensures stops { IfErr result (MayStop (Applies (standing_of matrix.old) (step_of turn.now.side turn.now.gate))) }
 {
     match turn.side {
         Side::Left => matrix.left(alloc, &turn.gate),

@@ -1,4 +1,4 @@
-//! Verdicts over diagrams against those over lists of all entries, and a gate planted in a circuit of 20 qubits.
+//! Verdicts over diagrams against those over lists of all entries, with and without sifts, and a gate planted in a circuit of 20 qubits.
 ghost use Rattle.std.specs.Prelude.{◌≡◌, ◌≤◌, ◌<◌, IfOk};
 ghost use Rattle.gate_set.specs.Matrix.{arity_of};
 ghost use Rattle.gate_set.specs.Shape.{IsOn};
@@ -213,5 +213,85 @@ fn an_x_planted_at_each_place(rt: HostRuntime) -> Result<(), Fail> {
         d: 1,
     };
     assert_eq!(rt; (q, k), (one, 0));
+    Ok(())
+}
+
+/// Rules with a sift after each so many steps.
+fn sifted(sift: u32) -> Rules
+    requires { sift ≤ 1000000 }
+{
+    Rules {
+        width: 128,
+        nodes: 1_048_576,
+        cache: 65_536,
+        reclaim: 16,
+        sift,
+    }
+}
+
+/// Adds H on one of the first three of six qubits.
+fn turn(alloc: Global, circuit: &mut Circuit, q: u8) -> Result<(), OutOfMemory>
+    requires six { circuit.old.qubits ≡ 6 }
+    requires within { q < 3 }
+    ensures { circuit.new.qubits ≡ circuit.old.qubits }
+{
+    add(circuit, Gate::new(alloc, Kind::H, &[q]))
+}
+
+/// Adds Cx from it to the qubit three places on.
+fn pair(alloc: Global, circuit: &mut Circuit, q: u8) -> Result<(), OutOfMemory>
+    requires six { circuit.old.qubits ≡ 6 }
+    requires within { q < 3 }
+    ensures { circuit.new.qubits ≡ circuit.old.qubits }
+{
+    add(circuit, Gate::new(alloc, Kind::Cx, &[q, q + 3]))
+}
+
+/// Three pairs, one after the other.
+fn pair_by_pair(alloc: Global) -> Result<Circuit, OutOfMemory>
+    ensures { IfOk result (λ c. c.qubits ≡ 6) }
+{
+    let mut circuit = Circuit::new(alloc, 6)?;
+    'pairs: for q in 0..3u8 {
+        turn(alloc, &mut circuit, q)?;
+        pair(alloc, &mut circuit, q)?;
+    }
+    Ok(circuit)
+}
+
+/// The same pairs with all H first, and then T on the qubit of this number, if it is one of the six.
+fn all_turned_first(alloc: Global, late: u8) -> Result<Circuit, OutOfMemory>
+    ensures { IfOk result (λ c. c.qubits ≡ 6) }
+{
+    let mut circuit = Circuit::new(alloc, 6)?;
+    'turns: for q in 0..3u8 {
+        turn(alloc, &mut circuit, q)?;
+    }
+    'pairs: for q in 0..3u8 {
+        pair(alloc, &mut circuit, q)?;
+    }
+    if late < 6 {
+        add(&mut circuit, Gate::new(alloc, Kind::T, &[late]))?;
+    }
+    Ok(circuit)
+}
+
+/// No sift, one after each step, and one after each second step, for equal circuits and for some with one gate more.
+#[test]
+fn sifts_leave_the_verdict(rt: HostRuntime) -> Result<(), Fail> {
+    let alloc = rt.alloc();
+    let u = pair_by_pair(alloc)?;
+    for late in 0..7u8 {
+        let v = all_turned_first(alloc, late)?;
+        let Ok(listed) = dense_matrix::compare(alloc, &u, &v, 128) else {
+            panic!(rt; "no list of qubit {late}");
+        };
+        for sift in 0..3u32 {
+            let Ok(verdict) = compare(alloc, &u, &v, &sifted(sift)) else {
+                panic!(rt; "no verdict of qubit {late}");
+            };
+            assert!(rt; alike(&verdict, &listed), "qubit {late}, sift {sift}");
+        }
+    }
     Ok(())
 }

@@ -13,7 +13,8 @@ use Rattle.diagram_model.proofs.Canonical.{cases_var}
 use Rattle.diagram_model.proofs.Reached.{in_append}
 use Rattle.diagram_model.proofs.Values.{none_some, below-order}
 use Rattle.node_store.specs.Slots.{parts, IsSlotted, AreNodesOf}
-use Rattle.level_swap.specs.Rewriting.{IsTopPair, AreTopPair, Crosses, CrossesNot, AreCrossing, IsPartlySwapped, IsUnderway, AreDone, HasVariable, IsRewrittenLevel}
+use Rattle.level_swap.specs.Rewriting.{IsTopPair, AreTopPair, Crosses, CrossesNot, AreCrossing, IsPartlySwapped, IsUnderway, AreDone, AreUsed, IsRewrittenLevel}
+use Rattle.level_swap.specs.Swaps.{HasVariable, AreSwapped}
 use Rattle.level_swap.proofs.Steps.{has_lacks, upper_lower, lacks_back, var_same}
 use Rattle.level_swap.proofs.Swapped.{splits_at, top_pair, exchanged-pre, IsWhole, whole}
 
@@ -82,6 +83,9 @@ partly_same s k u v post = record {
   added = λ n p none is. absurd (none_some p (sym none ∙ is));
 }
 
+pub used_none : (s : List (Option Parts)) (u : ℕ) → AreUsed s s u
+used_none s u n p none is = absurd (none_some p (sym none ∙ is))
+
 -- a held node stays held
 held_on : (s t : List (Option Parts)) (u v : ℕ) (post : List ℕ) (n low high : ℕ) → IsPartlySwapped s t u v post → parts_of s n ≡ Some (parts u low high) → (q : Parts) × (parts_of t n ≡ Some q)
 held_on s t u v post n low high partly is = elim (partly.upper n low high is) [
@@ -136,8 +140,9 @@ pub underway : (s t : List (Option Parts)) (u v : ℕ) → AreTopPair s u v → 
 underway s t u v pair partly = record { from = s; bound = pair.bound; post = pair.post; top = pair.top; partly = partly pair.bound pair.post pair.top }
 
 -- every node of u that crosses is passed
-pub level_done : (d : Diagram) (t : List (Option Parts)) (u v : ℕ) (ns : List ℕ) → ((k : ℕ) (post : List ℕ) → IsTopPair d.slots k u v post → IsPartlySwapped d.slots t u v post) → AreCrossing d u v ns → AreDone d.slots t u v ns → IsRewrittenLevel d.slots t u v
-level_done d t u v ns partly crossing done = record {
+pub level_done : (d : Diagram) (t : List (Option Parts)) (u v : ℕ) (ns : List ℕ) → ((k : ℕ) (post : List ℕ) → IsTopPair d.slots k u v post → IsPartlySwapped d.slots t u v post) → AreCrossing d u v ns → AreDone d.slots t u v ns → AreUsed d.slots t u → IsRewrittenLevel d.slots t u v
+level_done d t u v ns partly crossing done used = record {
+  used = used;
   partly = partly;
   done = λ n low high is same. elim (cases_var d.slots v low) [
     | inl has ↦ done n low high (crossing.all n (parts u low high) (record { is = is; var_is = refl; crosses = inl has })) is same
@@ -147,6 +152,20 @@ level_done d t u v ns partly crossing done = record {
     ]
   ];
 }
+
+-- what a swap makes of the nodes
+pub level_swapped : (s t w : List (Option Parts)) (u v : ℕ) → AreTopPair s u v → IsRewrittenLevel s t u v → w ≡ t → AreSwapped s w u v
+level_swapped s t w u v pair level same =
+    let way = level.partly pair.bound pair.post pair.top in
+    let all : AreSwapped s t u v = record {
+      others = way.others;
+      upper = λ n low high is. elim (way.upper n low high is) [
+        | inl stays ↦ let lacks = level.done n low high is stays in inl (record { is = stays; low_lacks = lacks.0; high_lacks = lacks.1 })
+        | inr r ↦ inr r
+      ];
+      added = λ n p none is. ((way.added n p none is).0, level.used n p none is);
+    } in
+    rw same all
 
 -- the variables at a place and at the next one
 pub record AreAt (d : Diagram) (u v : ℕ) : Type 0 where

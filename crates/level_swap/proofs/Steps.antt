@@ -4,12 +4,13 @@ use Rattle.std.proofs.lemmas.Bool.{cases_eq, false≢true}
 use Rattle.bit_lists.specs.Orders.{has, AreVars}
 use Rattle.bit_lists.proofs.Variables.{has-head, has-here}
 use Rattle.diagram_model.specs.declared.parts.Parts.{Parts}
-use Rattle.diagram_model.specs.Nodes.{parts_of, follow, IsLiveIn}
+use Rattle.diagram_model.specs.Nodes.{parts_of, child, follow, IsLiveIn, AreUnique}
 use Rattle.diagram_model.proofs.Canonical.{HasVar, LacksVar, some_same, follow-at, follow-other, after-head, proper-tail, live-follow, same_from_follow, has_not-parts}
 use Rattle.diagram_model.proofs.Values.{none_some, live-wider}
 use Rattle.diagram_model.proofs.Extend.{same_parts_follow}
 use Rattle.node_store.specs.Slots.{parts, Rewrites}
-use Rattle.level_swap.specs.Rewriting.{IsTopPair, IsCrossing, IsNodeOf, GrowsBy, IsRewritten, IsPartlySwapped}
+use Rattle.level_swap.specs.Rewriting.{IsTopPair, IsCrossing, GrowsBy, IsPartlySwapped, AreUsed}
+use Rattle.level_swap.specs.Swaps.{IsNodeOf, IsRewritten, IsUsed}
 
 abbrev pub Ground : List (Option Parts) → Type 0
 Ground s = (m : ℕ) → m < 2 → parts_of s m ≡ None
@@ -313,6 +314,21 @@ crosses_grow : (t w : List (Option Parts)) (p : Parts) (v low high : ℕ) → Gr
 crosses_grow t w p v low high grows (inl c) = inl (has_grows t w p v low grows c)
 crosses_grow t w p v low high grows (inr c) = inr (has_grows t w p v high grows c)
 
+node_child : (a : List (Option Parts)) (u l h f m : ℕ) (q : Parts) → AreUnique a → IsNodeOf a u l h f → parts_of a m ≡ Some q → q ≡ parts u l h → l ≢ h → f ≡ m
+node_child a u l h f m q unique (inl same) at e ne = absurd (ne same.0)
+node_child a u l h f m q unique (inr made) at e ne = unique f m (parts u l h) made.1 (at ∙ ap (λ r. Some r) e)
+
+held_live : (s : List (Option Parts)) (vs : List ℕ) (m : ℕ) (q : Parts) (t : List (Option Parts)) → Ground t → parts_of s m ≡ None → parts_of t m ≡ Some q → IsLiveIn s vs m → ⊥
+held_live s vs m q t gt none at (inl small) = absurd (none_some q (sym (gt m small) ∙ at))
+held_live s vs m q t gt none at (inr held) = absurd (none_some held.parts (sym none ∙ held.is))
+
+child_live : (s : List (Option Parts)) (vs : List ℕ) (p : Parts) (b : Bool) → IsLiveIn s vs p.low → IsLiveIn s vs p.high → IsLiveIn s vs (child b p)
+child_live s vs p false l h = l
+child_live s vs p true l h = h
+
+live_at : (s : List (Option Parts)) (vs : List ℕ) (n m : ℕ) → n ≡ m → IsLiveIn s vs n → IsLiveIn s vs m
+live_at s vs n m e h = rw (← e) h
+
 -- The node n with the parts p crosses: its two new children are made, in the slots a and b, and it
 -- is rewritten in the slots w.
 module _ (s t a b : List (Option Parts)) (k u v : ℕ) (post : List ℕ) (n : ℕ) (p : Parts) (f g : ℕ) (top : IsTopPair s k u v post) (gt : Ground t) (gb : Ground b) (partly : IsPartlySwapped s t u v post) (crossing : IsCrossing t u v n p) (grows_a : GrowsBy t a (parts u (follow t v false p.low) (follow t v false p.high))) (node_a : IsNodeOf a u (follow t v false p.low) (follow t v false p.high) f) (grows_b : GrowsBy a b (parts u (follow t v true p.low) (follow t v true p.high))) (node_b : IsNodeOf b u (follow t v true p.low) (follow t v true p.high) g) where
@@ -360,3 +376,34 @@ module _ (s t a b : List (Option Parts)) (k u v : ℕ) (post : List ℕ) (n : �
 
   pub crossed_partly : (w : List (Option Parts)) → Rewrites b w n (parts v f g) → IsPartlySwapped s w u v post
   crossed_partly w rewrites = partly_rewrites s b w k u v post n p.low p.high f g top gb partly_b at_b crosses_b false_b true_b rewrites
+
+  -- the nodes that were added are children of rewritten nodes
+  pub crossed_used : AreUnique a → AreUnique b → (w : List (Option Parts)) → Rewrites b w n (parts v f g) → AreUsed s t u → AreUsed s w u
+  crossed_used ua ub w rewrites used m q none is =
+      let ne : m ≢ n = λ e. none_some (parts u p.low p.high) (sym none ∙ ap (parts_of s) e ∙ at_s) in
+      let there : parts_of b m ≡ Some q = sym (rewrites.others m ne) ∙ is in
+      let hangs : (c : Bool) → child c (parts v f g) ≡ m → IsUsed s w u m = λ c e. record { parent = n; before = parts u p.low p.high; was = at_s; var_is = refl; its = parts v f g; is = rewrites.here; side = c; there = e } in
+      elim (grows_b.only m q there) [
+        | inl at_a ↦ elim (grows_a.only m q at_a) [
+          | inl old ↦
+              let h = used m q none old in
+              elim (cases_eq h.parent n) [
+                | inl e ↦
+                    let same : h.its ≡ p = some_same h.its p (sym h.is ∙ ap (parts_of t) e ∙ crossing.is) in
+                    let at : child h.side p ≡ m = ap (child h.side) (sym same) ∙ h.there in
+                    absurd (held_live s (v ∷ post) m q t gt none old (live_at s (v ∷ post) (child h.side p) m at (child_live s (v ∷ post) p h.side kids.low_live kids.high_live)))
+                | inr other ↦ record {
+                  parent = h.parent;
+                  before = h.before;
+                  was = h.was;
+                  var_is = h.var_is;
+                  its = h.its;
+                  is = rewrites.others h.parent other ∙ grows_b.kept h.parent h.its (grows_a.kept h.parent h.its h.is);
+                  side = h.side;
+                  there = h.there;
+                }
+              ]
+          | inr new ↦ hangs false (node_child a u (follow t v false p.low) (follow t v false p.high) f m q ua node_a at_a new.0 new.1)
+        ]
+        | inr new ↦ hangs true (node_child b u (follow t v true p.low) (follow t v true p.high) g m q ub node_b there new.0 new.1)
+      ]

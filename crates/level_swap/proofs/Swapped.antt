@@ -10,7 +10,8 @@ use Rattle.diagram_model.specs.Stores.{Diagram, IsSound, KeepsFunctions}
 use Rattle.diagram_model.proofs.Canonical.{LacksVar, cases_var, some_same, follow-at, follow-other, after-head, after-tail, proper-tail, live-follow, live-rest, has_not-parts}
 use Rattle.diagram_model.proofs.Values.{none_some, has-after}
 use Rattle.node_store.specs.Slots.{parts, IsSlotted}
-use Rattle.level_swap.specs.Rewriting.{IsTopPair, IsNodeOf, IsRewritten, IsPartlySwapped}
+use Rattle.level_swap.specs.Rewriting.{IsTopPair, IsPartlySwapped}
+use Rattle.level_swap.specs.Swaps.{IsNodeOf, IsRewritten}
 use Rattle.level_swap.proofs.Steps.{Ground, cases_option, var_same, u_parts, parts_lacks, follow_node_of, node_of_tells, KeepsIn, follow_in, keeps_post, lacks_after, wider, upper_lower, children_of}
 
 -- t is s once every node of u with a child of v is rewritten

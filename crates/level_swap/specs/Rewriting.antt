@@ -1,43 +1,28 @@
 -- Two adjacent variables change places: u stood above v, and then v stands above u. Only private functions
 -- use these words.
-use Rattle.std.specs.Prelude.{◌≡◌, ◌≢◌, ◌⊎◌, ℕ, ◌<◌, ◌≤◌, true, false, List, ◌∷◌, length, Option, Some, None}
+use Rattle.std.specs.Prelude.{◌≡◌, ◌≢◌, ◌⊎◌, ℕ, ◌<◌, ◌≤◌, true, List, ◌∷◌, length, Option, Some, None}
 use Rattle.bit_lists.specs.Orders.{AreVars}
 use Rattle.diagram_model.specs.declared.parts.Parts.{Parts}
-use Rattle.diagram_model.specs.Nodes.{parts_of, follow, IsLiveIn, AreProper, AreUnique}
+use Rattle.diagram_model.specs.Nodes.{parts_of, IsLiveIn, AreProper, AreUnique}
 use Rattle.diagram_model.specs.Reach.{is_in}
 use Rattle.diagram_model.specs.Stores.{Diagram}
+use Rattle.level_swap.specs.Swaps.{HasVariable, LacksVariable, IsRewritten, IsUsed}
 use Rattle.node_store.specs.Slots.{parts, nodes_of}
-
--- n has the variable v, or it has not
-abbrev pub HasVariable : List (Option Parts) → ℕ → ℕ → Type 0
-HasVariable s v n = (p : Parts) × (parts_of s n ≡ Some p) × (p.var ≡ v)
-
-abbrev pub LacksVariable : List (Option Parts) → ℕ → ℕ → Type 0
-LacksVariable s v n = (p : Parts) → parts_of s n ≡ Some p → p.var ≢ v
-
--- a is the node of the variable u with these children, or the child where they are the same
-abbrev pub IsNodeOf : List (Option Parts) → ℕ → ℕ → ℕ → ℕ → Type 0
-IsNodeOf t u low high a = ((low ≡ high) × (a ≡ low)) ⊎ ((low ≢ high) × (parts_of t a ≡ Some (parts u low high)))
 
 -- the slots t are s, perhaps with one more node, of the parts p with different children
 pub record GrowsBy (s t : List (Option Parts)) (p : Parts) : Type 0 where
   pub kept : (n : ℕ) (q : Parts) → parts_of s n ≡ Some q → parts_of t n ≡ Some q
   pub only : (n : ℕ) (q : Parts) → parts_of t n ≡ Some q → (parts_of s n ≡ Some q) ⊎ ((q ≡ p) × (p.low ≢ p.high))
 
--- the node n of u with these children, one of which has the variable v, was rewritten to a node of v
-pub record IsRewritten (s t : List (Option Parts)) (u v n low high : ℕ) : Type 0 where
-  pub false_part : ℕ
-  pub true_part : ℕ
-  pub is : parts_of t n ≡ Some (parts v false_part true_part)
-  pub when_false : IsNodeOf t u (follow s v false low) (follow s v false high) false_part
-  pub when_true : IsNodeOf t u (follow s v true low) (follow s v true high) true_part
-  pub crosses : HasVariable s v low ⊎ HasVariable s v high
-
 -- t is s once some nodes of u are rewritten, and nodes of u are added
 pub record IsPartlySwapped (s t : List (Option Parts)) (u v : ℕ) (post : List ℕ) : Type 0 where
   pub others : (n : ℕ) (p : Parts) → parts_of s n ≡ Some p → p.var ≢ u → parts_of t n ≡ Some p
   pub upper : (n low high : ℕ) → parts_of s n ≡ Some (parts u low high) → (parts_of t n ≡ Some (parts u low high)) ⊎ IsRewritten s t u v n low high
   pub added : (n : ℕ) (p : Parts) → parts_of s n ≡ None → parts_of t n ≡ Some p → (p.var ≡ u) × (IsLiveIn s post p.low × IsLiveIn s post p.high × (p.low ≢ p.high))
+
+-- each node that t has besides those of s is a child of a node that had u
+abbrev pub AreUsed : List (Option Parts) → List (Option Parts) → ℕ → Type 0
+AreUsed s t u = (n : ℕ) (p : Parts) → parts_of s n ≡ None → parts_of t n ≡ Some p → IsUsed s t u n
 
 -- no node of u in the list has a child of v any more
 abbrev pub AreDone : List (Option Parts) → List (Option Parts) → ℕ → ℕ → List ℕ → Type 0
@@ -90,7 +75,13 @@ abbrev pub StaysUnderway : List (Option Parts) → List (Option Parts) → ℕ �
 StaysUnderway t w u v =
     (s : List (Option Parts)) (k : ℕ) (post : List ℕ) → IsTopPair s k u v post → IsPartlySwapped s t u v post → IsPartlySwapped s w u v post
 
+-- where the added nodes of t were all used, those of w are
+abbrev pub StaysUsed : List (Option Parts) → List (Option Parts) → ℕ → ℕ → Type 0
+StaysUsed t w u v =
+    (s : List (Option Parts)) (k : ℕ) (post : List ℕ) → IsTopPair s k u v post → IsPartlySwapped s t u v post → AreUsed s t u → AreUsed s w u
+
 -- the slots t are s once every node of u with a child of v is rewritten
 pub record IsRewrittenLevel (s t : List (Option Parts)) (u v : ℕ) : Type 0 where
   pub partly : (k : ℕ) (post : List ℕ) → IsTopPair s k u v post → IsPartlySwapped s t u v post
   pub done : (n low high : ℕ) → parts_of s n ≡ Some (parts u low high) → parts_of t n ≡ Some (parts u low high) → LacksVariable s v low × LacksVariable s v high
+  pub used : AreUsed s t u

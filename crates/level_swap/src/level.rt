@@ -4,7 +4,7 @@ ghost use Rattle.bit_lists.specs.Orders.{exchanged};
 ghost use Rattle.diagram_model.specs.Stores.{held, IsSound, KeepsFunctions};
 ghost use Rattle.node_store.specs.Slots.{IsSlotted, nodes_of, spare_of};
 ghost use Rattle.level_swap.specs.Rewriting.{AreCrossing, AreTopPair, Crosses, CrossesNot, IsRewrittenLevel};
-ghost use Rattle.level_swap.specs.Swaps.{level_nodes};
+ghost use Rattle.level_swap.specs.Swaps.{level_nodes, variable_at, AreSwapped};
 
 use crate::nodes::{cross, crossing};
 use bit_lists::OutOfMemory;
@@ -74,6 +74,7 @@ pub(crate) fn swap_level(slots: &mut Slots, level: u8) -> Result<(), OutOfMemory
     requires sound { IsSound slots.old.diagram }
     ensures order { OnOk result (slots.new.diagram.order ≡ exchanged slots.old.diagram.order level) }
     ensures functions { KeepsFunctions slots.old.diagram slots.new.diagram }
+    ensures swapped { OnOk result (AreSwapped slots.old.diagram.slots slots.new.diagram.slots (variable_at slots.old.diagram level) (variable_at slots.old.diagram (level + 1))) }
     ensures few { held slots.new.diagram ≤ held slots.old.diagram + 2 * level_nodes slots.old.diagram level }
     ensures limit { slots.new.diagram.limit ≡ slots.old.diagram.limit }
     ensures made { slots.new.diagram.made ≡ slots.old.diagram.made }

@@ -4,7 +4,8 @@ ghost use Rattle.diagram_model.specs.declared.parts.Parts.{Parts};
 ghost use Rattle.diagram_model.specs.Nodes.{parts_of, follow};
 ghost use Rattle.diagram_model.specs.Stores.{held};
 ghost use Rattle.node_store.specs.Slots.{IsSlotted, parts, spare_of};
-ghost use Rattle.level_swap.specs.Rewriting.{HasVariable, LacksVariable, IsNodeOf, GrowsBy, IsCrossing, IsUnderway, StaysUnderway, CrossesNot};
+ghost use Rattle.level_swap.specs.Rewriting.{GrowsBy, IsCrossing, IsUnderway, StaysUnderway, StaysUsed, CrossesNot};
+ghost use Rattle.level_swap.specs.Swaps.{HasVariable, LacksVariable, IsNodeOf};
 
 use diagram_model::Parts;
 use node_store::{Node, Slots};
@@ -102,6 +103,7 @@ pub(crate) fn cross(slots: &mut Slots, upper: u8, lower: u8, n: Node, p: Parts)
     requires spare_lower { 3 ≤ spare_of slots.old lower }
     requires room { held slots.old.diagram + 2 ≤ slots.old.diagram.limit }
     ensures underway { StaysUnderway slots.old.diagram.slots slots.new.diagram.slots upper lower }
+    ensures used { StaysUsed slots.old.diagram.slots slots.new.diagram.slots upper lower }
     ensures moved { HasVariable slots.new.diagram.slots lower n.0 }
     ensures stays { (m : ℕ) (q : Parts) → m ≢ n.0 → parts_of slots.old.diagram.slots m ≡ Some q → parts_of slots.new.diagram.slots m ≡ Some q }
     ensures held { held slots.new.diagram ≤ held slots.old.diagram + 2 }

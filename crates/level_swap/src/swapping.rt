@@ -2,7 +2,7 @@
 ghost use Rattle.std.specs.Prelude.{◌≡◌, ◌+◌, ◌*◌, ◌<◌, ◌≤◌, length, IfErr, OnOk, OnErr};
 ghost use Rattle.bit_lists.specs.Orders.{exchanged};
 ghost use Rattle.diagram_model.specs.Stores.{held, IsSound, KeepsFunctions};
-ghost use Rattle.level_swap.specs.Swaps.{level_nodes, HasRoom, StopMeans};
+ghost use Rattle.level_swap.specs.Swaps.{level_nodes, variable_at, AreSwapped, HasRoom, StopMeans};
 
 use crate::level::swap_level;
 use crate::needs::{Room, SwapStop};
@@ -37,6 +37,7 @@ pub fn swap(alloc: Global, store: &mut Store, level: u8) -> Result<(), OutOfMemo
     requires room { HasRoom store.old level }
     ensures order { OnOk result (store.new.order ≡ exchanged store.old.order level) }
     ensures functions { KeepsFunctions store.old store.new }
+    ensures swapped { OnOk result (AreSwapped store.old.slots store.new.slots (variable_at store.old level) (variable_at store.old (level + 1))) }
     ensures few { held store.new ≤ held store.old + 2 * level_nodes store.old level }
     ensures limit { store.new.limit ≡ store.old.limit }
     ensures made { store.new.made ≡ store.old.made }

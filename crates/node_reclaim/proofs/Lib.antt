@@ -1,3 +1,4 @@
 pub mod Bound
 pub mod Exact
 pub mod Left
+pub mod Dropped

@@ -4,7 +4,8 @@ use Rattle.ring_omega.specs.declared.quad.Quad.{Quad}
 use Rattle.ring_omega.specs.Ring.{zero_quad}
 use Rattle.bit_lists.specs.Lists.{IsBefore}
 use Rattle.amp_dense.specs.Nonzero.{IsAfter}
-use Rattle.probabilities.specs.Outcomes.{measured_count, measured_bits}
+use Rattle.probabilities.specs.Weighing.{IsNarrow}
+use Rattle.probabilities.specs.Outcomes.{measured_count, measured_bits, outcome_weight}
 
 -- some state with the outcome y has an entry that isn't zero
 pub record IsPossible (measured : List Bool) (v : List Bool → Quad) (y : List Bool) : Type 0 where
@@ -27,3 +28,9 @@ pub record IsNextOutcome (measured : List Bool) (v : List Bool → Quad) (given 
   pub after : IsAfter given y
   pub possible : IsPossible measured v y
   pub first : (z : List Bool) → length z ≡ measured_count measured → IsAfter given z → IsBefore z y → IsImpossible measured v z
+
+-- the weight of the first possible outcome after the given one is too wide
+pub record IsNextTooWide (measured : List Bool) (v : List Bool → Quad) (given : Option (List Bool)) : Type 0 where
+  pub outcome : List Bool
+  pub next : IsNextOutcome measured v given outcome
+  pub wide : ¬ IsNarrow (outcome_weight measured v outcome)

@@ -11,4 +11,4 @@ mod weigh;
 pub use laws::states_by_outcome;
 pub use next::next_outcome_dense;
 pub use outcome::{counted, fixed_to, measured_count};
-pub use weigh::{Weigh, WeighStop, plus, weigh_dense};
+pub use weigh::{DenseOutcomes, Weigh, WeighStop, plus, weigh_dense};

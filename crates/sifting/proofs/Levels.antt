@@ -1,23 +1,23 @@
 -- The size of a level is the number of reached nodes of its variable.
-use Rattle.std.proofs.Common.{◌≡◌, ◌≢◌, ◌⊎◌, ℕ, zero, suc, ◌+◌, ◌<◌, Bool, true, false, not, eqb, List, [], ◌∷◌, ◌++◌, map, filter, length, Option, Some, None, is_some, count_by, inl, inr, refl, sym, ◌∙◌, ap, arith, eq-eqb, cond, slice_index}
-use Rattle.std.specs.Prelude.{◌&&◌, ◌||◌}
-use Rattle.std.specs.Set.{distinct_count, unique_keys, is_member}
+use Rattle.std.proofs.Common.{◌≡◌, ℕ, zero, suc, ◌+◌, ◌<◌, Bool, true, false, eqb, List, [], ◌∷◌, map, filter, length, Option, Some, None, count_by, inl, inr, refl, sym, ◌∙◌, ap, arith, eq-eqb, cond, slice_index}
+use Rattle.std.specs.Prelude.{◌||◌}
+use Rattle.std.specs.Set.{distinct_count}
 use Rattle.std.specs.List.{IsDistinct, AllByRecursion}
 use Rattle.std.specs.Cmp.{nat_eq_equiv}
-use Rattle.std.proofs.lemmas.Bool.{cases_eq, cond-true, cond-false, ne_eqb, cases_Bool, and_parts, eqb-true, or_cases, or_left, or_right, false≢true}
+use Rattle.std.proofs.lemmas.Bool.{cond-true, cond-false, ne_eqb, cases_Bool, eqb-true, or_cases, or_left, or_right, false≢true}
 use Rattle.std.proofs.lemmas.Map.Made.{length-from_keys}
 use Rattle.std.proofs.lemmas.Map.Keys.{IsDistinct-cons}
 use Rattle.std.proofs.lemmas.List.Sums.{sum_by-cons}
 use mathlib.Core.Path.{fun_ext}
-use Rattle.bit_lists.proofs.Variables.{has-here, has-head}
+use Rattle.bit_lists.proofs.Variables.{has-head}
 use Rattle.bit_lists.specs.Orders.{has, AreVars}
 use Rattle.diagram_model.specs.Functions.{Function, fix}
 use Rattle.diagram_model.specs.Nodes.{parts_of, follow, IsLiveIn, AreProper, AreUnique, IsDiagram, denoted}
 use Rattle.diagram_model.specs.Reach.{is_in, Reaches}
-use Rattle.diagram_model.specs.Reach.Reaches.{root, step}
-use Rattle.diagram_model.specs.Size.{truths, same_truths, depends, fix_both, level_size, size}
+use Rattle.diagram_model.specs.Reach.Reaches.{root}
+use Rattle.diagram_model.specs.Size.{fix_both, level_size, size}
 use Rattle.diagram_model.specs.declared.parts.Parts.{Parts}
-use Rattle.diagram_model.proofs.Canonical.{cases_var, follow-at, follow-other, proper-tail, live-follow, value-fixed, same_node, some_same}
+use Rattle.diagram_model.proofs.Canonical.{proper-tail, live-follow, value-fixed, some_same}
 use Rattle.diagram_model.proofs.Sizes.{has_var, has_var_of, follow_both, Each, size_is, node_count}
 use Rattle.diagram_model.proofs.Reached.{met, in_append, met_reached, reached_met}
 use Rattle.node_store.specs.Slots.{is_of}

@@ -3,3 +3,10 @@ pub mod Levels
 pub mod Keeps
 pub mod Reached
 pub mod Turns
+pub mod Moved
+pub mod SiftedOrders
+pub mod SameFunctions
+pub mod Pairs
+pub mod Orphans
+pub mod Freed
+pub mod Lowered

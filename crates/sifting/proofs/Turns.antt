@@ -1,5 +1,5 @@
 -- The answers of one sift after another.
-use Rattle.std.proofs.Common.{◌≡◌, ℕ, suc, ◌+◌, List, [], ◌∷◌, ◌++◌, length, refl, sym, ◌∙◌, ap, arith}
+use Rattle.std.proofs.Common.{◌≡◌, ℕ, suc, ◌+◌, List, [], ◌∷◌, ◌++◌, length, refl, sym, arith}
 use Rattle.diagram_model.specs.Functions.{Function}
 use Rattle.diagram_model.specs.Stores.{Diagram}
 use Rattle.node_store.specs.declared.node.Node.{Node}

@@ -1,4 +1,5 @@
 pub mod Places
 pub mod Sifts
 pub mod Private
+pub mod Hanging
 pub mod Answers

@@ -5,12 +5,16 @@ mod all;
 mod back;
 mod laws;
 mod least;
+mod ranks;
 mod shifts;
 mod sift;
 mod ways;
 
 pub use all::sift_all;
-pub use laws::sifted_places_are_unique;
+pub use laws::{
+    answers_lead_to_the_order, same_functions_sift_alike, sifted_places_are_unique,
+    variables_sift_to_one_order,
+};
 pub use sift::{Sifted, sift_variable};
 
 #[cfg(test)]

@@ -5,7 +5,10 @@ pub mod Weighed
 pub mod Known
 pub mod Gathering
 pub mod Outcomes
+pub mod Asked
 pub mod Ways
 pub mod Turns
 pub mod CountsAt
 pub mod Counted
+pub mod OnTop
+pub mod Descents

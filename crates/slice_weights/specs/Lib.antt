@@ -1,3 +1,4 @@
 pub mod Private
 pub mod Paths
 pub mod Counts
+pub mod OnTop

@@ -8,8 +8,14 @@ mod asking;
 mod counting;
 #[cfg(test)]
 mod counting_tests;
+mod descent;
+mod further;
 mod integer;
+mod on_top;
 mod outcome;
+mod outcome_walk;
+#[cfg(test)]
+mod outcome_walk_tests;
 mod path;
 mod places;
 mod summing;
@@ -20,8 +26,11 @@ mod walk;
 #[cfg(test)]
 mod walk_tests;
 mod weighing;
+#[cfg(test)]
+mod wide_tests;
 
 pub use counting::count_nonzero;
 pub use outcome::next_outcome;
+pub use outcome_walk::OutcomeWalk;
 pub use walk::{Walk, last_nonzero};
 pub use weighing::weigh;

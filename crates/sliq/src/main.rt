@@ -3,10 +3,10 @@
 
 ghost use Rattle.std.specs.Prelude.{◌≡◌, map, string_bytes};
 ghost use Rattle.std.specs.Process.{exit_status};
-ghost use Rattle.sliq_engine.specs.declared.cause.Cause.{Cause};
+ghost use Rattle.causes.specs.declared.cause.Cause.{Cause};
 ghost use Rattle.sliq_engine.specs.Comes.{Comes};
 ghost use Rattle.sliq_engine.specs.Ending.{MayEnd};
-ghost use Rattle.sliq_engine.specs.Status.{status_of};
+ghost use Rattle.causes.specs.Status.{status_of};
 
 use outside::{FileShelf, Shelf, Sink, StreamSink};
 use sliq_engine::{Cause, end, run};

@@ -1,14 +1,19 @@
 -- How a run may end whose phases come one after the other.
-use Rattle.std.proofs.Common.{inl, inr, ℕ, List, Option, Ok, Err, refl}
+use Rattle.std.proofs.Common.{inl, inr, ℕ, List, Option, Ok, Err, refl, Bool}
 use Rattle.outside.specs.Bytes.{AddedSome}
 use Rattle.phases.specs.Phases.{Phase, ◌>>=◌, HandsOn}
-use Rattle.sliq_engine.specs.declared.output.SendStop.{SendStop}
-use Rattle.sliq_engine.specs.declared.output.SendStop.TheVariants as sends
-use Rattle.sliq_engine.specs.declared.cause.Cause.{Cause}
-use Rattle.sliq_engine.specs.declared.cause.Cause.TheVariants.{Done, Differs, BadWords, ReadFault, TooLong, Refused, QubitsDiffer, Width, Nodes, WeightTooWide, WriteFault, OutOfMemory}
-use Rattle.sliq_engine.specs.Steps.{Output}
+use Rattle.outputs.specs.declared.output.SendStop.{SendStop}
+use Rattle.outputs.specs.declared.output.SendStop.TheVariants as sends
+use Rattle.causes.specs.declared.cause.Cause.{Cause}
+use Rattle.causes.specs.declared.cause.Cause.TheVariants.{Done, Differs, BadWords, ReadFault, TooLong, Refused, QubitsDiffer, Width, Nodes, WeightTooWide, WriteFault, OutOfMemory}
+use Rattle.sliq_engine.specs.Steps.{Output, Simulates}
+use Rattle.causes.specs.Stops.{cause_of, cause_of_sending}
 use Rattle.sliq_engine.specs.Ending.{MayEnd, MayStopBy}
-use Rattle.sliq_engine.specs.Private.{cause_of_sending}
+use Rattle.gate_set.specs.declared.gate.Gate.{Gate}
+use Rattle.amp_dense.specs.Rules.{Settings}
+use Rattle.amp_dense.specs.declared.stop.Stop.{Stop}
+use Rattle.amp_dense.specs.declared.stop.Stop.TheVariants as stops
+use Rattle.amp_dense.specs.Standing.{Policy, begun, Walks, MayStop}
 
 module _ {X : Type 0} (first : Phase X Cause) (next : X → Phase Output Cause) where
   -- the first phase stops
@@ -62,3 +67,10 @@ stops_also phase also each WeightTooWide h = each WeightTooWide h
 pub ends_sending : (output : Output) (stop : SendStop) (old new : Option (List ℕ)) → AddedSome old new output.bytes → MayEnd (HandsOn output) (cause_of_sending stop) old new
 ends_sending output sends.Fault old new some = (output, refl, some)
 ends_sending output sends.OutOfMemory old new some = inr (output, refl, some)
+
+-- the stop of a walk, as it is told
+pub simulation_stops : (policy : Policy) (rules : Settings) (input : List Bool) (gates : List Gate) (stop : Stop) → MayStop (Walks policy (begun input rules) gates) stop
+    → MayStopBy (Simulates policy rules input gates) (cause_of stop)
+simulation_stops policy rules input gates (stops.Width gate) h = (stops.Width gate, h, refl)
+simulation_stops policy rules input gates (stops.Nodes gate order held) h = (stops.Nodes gate order held, h, refl)
+simulation_stops policy rules input gates stops.OutOfMemory h = tt

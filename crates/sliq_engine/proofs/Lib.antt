@@ -1,22 +1,7 @@
-mod ListingLemmas
-mod MessageLemmas
-mod WalkLemmas
-mod FoundLemmas
 mod Endings
-mod StepLemmas
-mod SomeEnds
-mod SlicedWalks
-mod SimLemmas
-mod EqLemmas
-mod EqTexts
-mod ProbLemmas
-mod CommandLemmas
-mod AskedRules
+mod SimExits
+pub mod ProbExits
+mod DemoExits
+mod EqExits
 mod TakingLemmas
 mod RunLemmas
-mod OneRun
-mod SummaryLemmas
-mod DemoLemmas
-mod EnoughNodes
-mod Completeness
-mod TextLemmas

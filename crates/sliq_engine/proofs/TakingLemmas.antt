@@ -4,7 +4,7 @@ use Rattle.std.proofs.Math.Seq.{split_at}
 use Rattle.std.proofs.lemmas.List.{map_more, map-append, length-map, length-take-le}
 use Rattle.outside.specs.Outside.{Shelf}
 use Rattle.phases.specs.Phases.{GoesOn, HandsOn}
-use Rattle.sliq_engine.specs.declared.cause.Cause.{Cause}
+use Rattle.causes.specs.declared.cause.Cause.{Cause}
 use Rattle.sliq_engine.specs.Taking.{Took, TakesFile, Takes}
 use Rattle.sliq_engine.specs.Ending.{MayStopBy}
 use Rattle.sliq_engine.proofs.Endings.{stops_also}

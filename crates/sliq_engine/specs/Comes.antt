@@ -6,8 +6,8 @@ use Rattle.amp_dense.specs.Rules.{Settings}
 use Rattle.sliq_words.specs.Asked.{Request, asked_of}
 use Rattle.sliq_words.specs.declared.reading.Task.{Task}
 use Rattle.sliq_words.specs.declared.reading.Task.TheVariants as task
-use Rattle.sliq_engine.specs.declared.cause.Cause.{Cause}
-use Rattle.sliq_engine.specs.declared.cause.Cause.TheVariants.{BadWords}
+use Rattle.causes.specs.declared.cause.Cause.{Cause}
+use Rattle.causes.specs.declared.cause.Cause.TheVariants.{BadWords}
 use Rattle.sliq_engine.specs.Taking.{Takes}
 use Rattle.sliq_engine.specs.Steps.{Output}
 use Rattle.sliq_engine.specs.Sim.{Sims}

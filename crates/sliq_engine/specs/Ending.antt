@@ -2,8 +2,8 @@
 use Rattle.std.specs.Prelude.{◌≡◌, ◌⊎◌, ℕ, List, Option, Ok, Err}
 use Rattle.outside.specs.Bytes.{Added, AddedSome}
 use Rattle.phases.specs.Phases.{Phase}
-use Rattle.sliq_engine.specs.declared.cause.Cause.{Cause}
-use Rattle.sliq_engine.specs.declared.cause.Cause.TheVariants.{Done, Differs, WriteFault, OutOfMemory}
+use Rattle.causes.specs.declared.cause.Cause.{Cause}
+use Rattle.causes.specs.declared.cause.Cause.TheVariants.{Done, Differs, WriteFault, OutOfMemory}
 use Rattle.sliq_engine.specs.Steps.{Output}
 
 -- out has the bytes of the whole output more

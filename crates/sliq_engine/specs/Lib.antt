@@ -1,5 +1,3 @@
-pub mod Refusals
-pub mod Listing
 pub mod Steps
 pub mod Taking
 pub mod Sim
@@ -8,6 +6,4 @@ pub mod Prob
 pub mod Demo
 pub mod Comes
 pub mod Ending
-pub mod Status
-pub mod Laws
 pub mod Private

@@ -6,9 +6,9 @@ use Rattle.circuit_model.specs.Working.{scaled}
 use Rattle.amp_dense.specs.Rules.{Settings}
 use Rattle.state_update.specs.Kept.{sliced_policy}
 use Rattle.phases.specs.Phases.{Phase, ◌>>=◌, ◌>>◌}
-use Rattle.sliq_engine.specs.declared.cause.Cause.{Cause}
-use Rattle.sliq_engine.specs.declared.cause.Cause.TheVariants.{Done}
-use Rattle.sliq_engine.specs.Listing.{vector_output}
+use Rattle.causes.specs.declared.cause.Cause.{Cause}
+use Rattle.causes.specs.declared.cause.Cause.TheVariants.{Done}
+use Rattle.outputs.specs.Listing.{vector_output}
 use Rattle.sliq_engine.specs.Steps.{Reads, SameQubits, zeros, Simulates, Output, Writes}
 
 -- the basis state at the start: the bits that are given, or all zeros

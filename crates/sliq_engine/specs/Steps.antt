@@ -4,13 +4,12 @@ use Rattle.gate_set.specs.declared.gate.Gate.{Gate}
 use Rattle.gate_set.specs.Circuits.{Circuit}
 use Rattle.amp_dense.specs.Rules.{Settings}
 use Rattle.amp_dense.specs.Standing.{Standing, Policy, begun, Walks}
-use Rattle.amp_dense.specs.declared.stop.Stop.{Stop}
-use Rattle.amp_dense.specs.declared.stop.Stop.TheVariants as stops
 use Rattle.qasm_reader.specs.declared.reason.Refusal.{Refusal}
 use Rattle.qasm_reader.specs.Reading.{ReadsAs, circuit, refusal}
+use Rattle.causes.specs.Stops.{cause_of}
 use Rattle.phases.specs.Phases.{Phase, HandsOn, StopsWhere, Told}
-use Rattle.sliq_engine.specs.declared.cause.Cause.{Cause}
-use Rattle.sliq_engine.specs.declared.cause.Cause.TheVariants.{Refused, QubitsDiffer, Width, Nodes, OutOfMemory}
+use Rattle.causes.specs.declared.cause.Cause.{Cause}
+use Rattle.causes.specs.declared.cause.Cause.TheVariants.{Refused, QubitsDiffer}
 
 -- the text of the file of this number reads as a circuit
 abbrev pub Reads : ℕ → List ℕ → Phase Circuit Cause
@@ -24,12 +23,6 @@ SameQubits first second = StopsWhere (first ≢ second) (QubitsDiffer first seco
 -- the basis state of all zeros
 abbrev pub zeros : ℕ → List Bool
 zeros n = replicate n false
-
--- how a stop at a gate is told
-abbrev pub cause_of : Stop → Cause
-cause_of (stops.Width gate) = Width gate
-cause_of (stops.Nodes gate order held) = Nodes gate order held
-cause_of stops.OutOfMemory = OutOfMemory
 
 -- gates come one after the other to a basis state
 abbrev pub Simulates : Policy → Settings → List Bool → List Gate → Phase Standing Cause

@@ -6,12 +6,12 @@ ghost use Rattle.sliq_engine.specs.Demo.{Demonstrates};
 ghost use Rattle.sliq_engine.specs.Ending.{MayEnd};
 ghost use Rattle.sliq_engine.specs.Steps.{Reads};
 
-use crate::cause::Cause;
 use crate::simulation::{simulated, zeros_of};
-use crate::summary::send_summary;
 use amp_dense::Rules;
+use causes::Cause;
 use demo_reads::demo_circuit;
 use gate_set::Circuit;
+use outputs::send_summary;
 use outside::Sink;
 use state_update::SlicedState;
 use std::alloc::Global;

@@ -1,7 +1,7 @@
 ghost use Rattle.std.specs.Prelude.{◌≤◌};
 
+use crate::Cause;
 use crate::runs::{CALM, Devices, ONE, ended_by, run_on};
-use crate::{Cause, demo_is_never_refused};
 use bit_lists::OutOfMemory;
 
 const SUMMARY_OF_64: &[u8] =
@@ -10,7 +10,6 @@ const SUMMARY_OF_64: &[u8] =
 // Summaries that were computed apart from the program. The shelf would fail at its first call.
 #[test]
 fn summaries_of_demo(rt: HostRuntime) -> Result<(), OutOfMemory> {
-    demo_is_never_refused();
     let rows: [(&[&str], &[u8]); 11] = [
         (
             &["sliq", "demo", "1", "1", "0"],

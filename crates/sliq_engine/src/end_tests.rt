@@ -1,10 +1,8 @@
 ghost use Rattle.std.specs.Prelude.{◌≤◌};
 
+use crate::Cause;
 use crate::runs::{BELL, BELL_OUTPUT, CALM, Devices, alike, ended_by, run_on, run_on_stream};
-use crate::{Cause, end, one_end, one_run, small_outputs, some_end};
-use bit_lists::{Order, OutOfMemory};
-use circuit_model::product_by_last_gate;
-use outside::MemorySink;
+use bit_lists::OutOfMemory;
 use qasm_lex::AngleRefusal;
 use qasm_reader::{Refusal, Why};
 
@@ -152,56 +150,6 @@ fn refused_texts(rt: HostRuntime) -> Result<(), OutOfMemory> {
     Ok(())
 }
 
-// Each reason by its name.
-#[test]
-fn reasons_on_err(rt: HostRuntime) -> Result<(), OutOfMemory> {
-    let rows: [(Why, &[u8]); 20] = [
-        (Why::BadByte(0), b"BadByte 0\n"),
-        (Why::NoVersion, b"NoVersion\n"),
-        (Why::NotAStatement, b"NotAStatement\n"),
-        (Why::OutOfProfile, b"OutOfProfile\n"),
-        (Why::UnknownName, b"UnknownName\n"),
-        (Why::Redeclared, b"Redeclared\n"),
-        (Why::UnknownRegister, b"UnknownRegister\n"),
-        (Why::IndexOutOfRange, b"IndexOutOfRange\n"),
-        (Why::WrongCount, b"WrongCount\n"),
-        (Why::SizesDiffer, b"SizesDiffer\n"),
-        (Why::RepeatedQubit, b"RepeatedQubit\n"),
-        (
-            Why::AngleRefused(AngleRefusal::TooLong),
-            b"AngleRefused TooLong\n",
-        ),
-        (
-            Why::AngleRefused(AngleRefusal::Malformed),
-            b"AngleRefused Malformed\n",
-        ),
-        (
-            Why::AngleRefused(AngleRefusal::NotExact),
-            b"AngleRefused NotExact\n",
-        ),
-        (
-            Why::AngleRefused(AngleRefusal::ZeroDivisor),
-            b"AngleRefused ZeroDivisor\n",
-        ),
-        (
-            Why::AngleRefused(AngleRefusal::TooWide),
-            b"AngleRefused TooWide\n",
-        ),
-        (Why::OffGrid, b"OffGrid\n"),
-        (Why::Measured, b"Measured\n"),
-        (Why::TooManyQubits, b"TooManyQubits\n"),
-        (Why::TooManyGates, b"TooManyGates\n"),
-    ];
-    let front = b"sliq: file 1 statement 4000000000: ".as_slice();
-    for (why, name) in rows {
-        let mut err = MemorySink::new(rt.alloc(), 100, 100, Vec::new(rt.alloc()))?;
-        let ended = end(refused(4_000_000_000, why), &mut err);
-        assert_eq!(rt; ended.status, 4, "{name:?}");
-        assert_eq!(rt; err.written().strip_prefix(front), Some(name), "{name:?}");
-    }
-    Ok(())
-}
-
 #[test]
 fn a_text_of_more_than_16_mebibytes(rt: HostRuntime) -> Result<(), OutOfMemory> {
     let blanks = vec![in rt.alloc(); b' '; 16_777_217]?;
@@ -297,48 +245,5 @@ fn each_write_on_err_fails_in_turn(rt: HostRuntime) -> Result<(), OutOfMemory> {
         assert!(rt; ended_by(&ran, 4, &refused(1, Why::NoVersion)));
         assert_eq!(rt; ran.err.written(), &lines[..kept], "write {bad_err_write}");
     }
-    Ok(())
-}
-
-#[test]
-fn ends_and_laws(rt: HostRuntime) -> Result<(), OutOfMemory> {
-    let mut err = MemorySink::new(rt.alloc(), 100, 100, Vec::new(rt.alloc()))?;
-    let ended = end(Cause::OutOfMemory, &mut err);
-    assert_eq!(rt; ended.status, 7);
-    assert!(rt; alike(&ended.cause, &Cause::OutOfMemory));
-    assert_eq!(rt; err.written(), b"sliq: out of memory\n".as_slice());
-    let mut wide = MemorySink::new(rt.alloc(), 100, 100, Vec::new(rt.alloc()))?;
-    let ended = end(Cause::Width { step: 1_000_000 }, &mut wide);
-    assert_eq!(rt; ended.status, 5);
-    assert_eq!(rt;
-        wide.written(),
-        b"sliq: width limit at step 1000000\n".as_slice()
-    );
-    let mut full = MemorySink::new(rt.alloc(), 100, 1_000, Vec::new(rt.alloc()))?;
-    let order = Order::natural(128);
-    let ended = end(
-        Cause::Nodes {
-            step: 4_000_000_000,
-            order,
-            held: 16_777_216,
-        },
-        &mut full,
-    );
-    assert_eq!(rt; ended.status, 5);
-    let lines = full.written();
-    assert!(rt;
-        lines.starts_with(b"sliq: node limit at step 4000000000, held 16777216, order 0 1 2 ")
-    );
-    assert!(rt;
-        lines.ends_with(
-            b" 99 100 101 102 103 104 105 106 107 108 109 110 111 112 113 114 115 116 117 118 119 120 121 122 123 124 125 126 127\n"
-        )
-    );
-    assert_eq!(rt; lines.len(), 460);
-    one_end();
-    one_run();
-    some_end();
-    product_by_last_gate();
-    small_outputs();
     Ok(())
 }

@@ -1,19 +1,17 @@
 //! `eq`: whether two circuits are the same up to a scalar.
-ghost use Rattle.std.specs.Prelude.{◌≡◌, ◌≤◌, length, IfErr, OnOk, OnErr, IsErrOf};
+ghost use Rattle.std.specs.Prelude.{◌≡◌, ◌≤◌, length, IfErr, OnOk, IsErrOf};
 ghost use Rattle.outside.specs.Outside.{Rose};
-ghost use Rattle.outside.specs.Bytes.{Added, AddedSome};
-ghost use Rattle.amp_printer.specs.Verdicts.{IsShort, verdict_text};
 ghost use Rattle.sliq_engine.specs.Eq.{Compares, told_by};
 ghost use Rattle.sliq_engine.specs.Ending.{MayEnd};
 
-use crate::cause::Cause;
-use crate::output::SendStop;
 use crate::reading::read_circuit;
 use crate::simulation::check_qubits;
 use amp_dense::Rules;
-use amp_printer::{Verdict, verdict_text};
+use amp_printer::Verdict;
+use causes::Cause;
 use equivalence::compare;
-use outside::{Sink, write_all};
+use outputs::send_verdict;
+use outside::Sink;
 use std::alloc::Global;
 
 /// Carries out `eq` on the texts of its files. Nothing is written before the last step. The answer is Ok for Done alone, so Differs is an
@@ -38,19 +36,6 @@ pub fn eq<K: Sink>(
     let verdict = compare(alloc, &u, &v, rules)?;
     send_verdict(out, &verdict)?;
     told(&verdict)?;
-    Ok(())
-}
-
-// Writes the lines of a verdict.
-fn send_verdict<K: Sink>(out: &mut K, verdict: &Verdict) -> Result<(), SendStop>
-    requires { IsShort verdict.now }
-    ensures ok { OnOk result (Added (K.written out.old) (K.written out.new) (verdict_text verdict.now)) }
-    ensures err { OnErr result (AddedSome (K.written out.old) (K.written out.new) (verdict_text verdict.now)) }
-    ensures fault { OnErr result (Rose (K.faults out.old) (K.faults out.new)) }
-    ensures counts { K.faults out.old ≤ K.faults out.new }
-{
-    let lines = verdict_text(verdict);
-    write_all(out, lines.as_bytes())?;
     Ok(())
 }
 

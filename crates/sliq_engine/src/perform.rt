@@ -6,12 +6,12 @@ ghost use Rattle.sliq_engine.specs.Comes.{CarriesOut};
 ghost use Rattle.sliq_engine.specs.Ending.{MayEnd};
 ghost use Rattle.sliq_engine.specs.Private.{bytes_of};
 
-use crate::cause::Cause;
 use crate::demo::demo;
 use crate::eq::eq;
 use crate::prob::prob;
 use crate::sim::sim;
 use amp_dense::Rules;
+use causes::Cause;
 use outside::Sink;
 use sliq_words::Task;
 use std::alloc::Global;

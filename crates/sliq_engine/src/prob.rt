@@ -1,18 +1,18 @@
 //! `prob`: the exact probabilities of a circuit's outcomes.
 ghost use Rattle.std.specs.Prelude.{◌≡◌, ◌≤◌, length, IfErr, OnOk, IsErrOf};
 ghost use Rattle.outside.specs.Outside.{Rose};
-ghost use Rattle.sliq_engine.specs.declared.cause.Cause.TheVariants.{WeightTooWide};
+ghost use Rattle.causes.specs.declared.cause.Cause.TheVariants.{WeightTooWide};
 ghost use Rattle.phases.specs.Phases.{StopsWhere};
 ghost use Rattle.amp_dense.specs.Standing.{vector};
 ghost use Rattle.sliq_engine.specs.Prob.{IsHeavy, Weighs};
 ghost use Rattle.sliq_engine.specs.Ending.{MayEnd, MayStopBy};
 
-use crate::cause::Cause;
-use crate::outcomes::send_outcomes;
 use crate::reading::read_circuit;
 use crate::simulation::{simulated, zeros_of};
 use amp_dense::Rules;
 use bit_lists::Partial;
+use causes::Cause;
+use outputs::send_outcomes;
 use outside::Sink;
 use probabilities::{Weigh, counted};
 use state_update::SlicedState;

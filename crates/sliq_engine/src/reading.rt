@@ -3,7 +3,7 @@ ghost use Rattle.std.specs.Prelude.{◌≤◌, length, IfOk, IfErr, Ok};
 ghost use Rattle.sliq_engine.specs.Steps.{Reads};
 ghost use Rattle.sliq_engine.specs.Ending.{MayStopBy};
 
-use crate::cause::Cause;
+use causes::Cause;
 use gate_set::Circuit;
 use qasm_reader::{ReadStop, read};
 use std::alloc::Global;

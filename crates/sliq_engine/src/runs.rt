@@ -1,9 +1,9 @@
 //! Runs on devices in memory, for the tests.
 ghost use Rattle.std.specs.Prelude.{◌≤◌};
 
-use crate::message::lines_of;
 use crate::{Cause, Ended, run};
 use bit_lists::OutOfMemory;
+use causes::lines_of;
 use outside::{Failed, MemoryShelf, MemorySink, Named, Shelf};
 use std::alloc::Global;
 

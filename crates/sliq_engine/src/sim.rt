@@ -4,12 +4,12 @@ ghost use Rattle.outside.specs.Outside.{Rose};
 ghost use Rattle.sliq_engine.specs.Sim.{Sims, input_for};
 ghost use Rattle.sliq_engine.specs.Ending.{MayEnd};
 
-use crate::cause::Cause;
-use crate::output::send_amplitudes;
 use crate::reading::read_circuit;
 use crate::simulation::{check_qubits, simulated};
 use amp_dense::Rules;
 use bit_lists::Bits;
+use causes::Cause;
+use outputs::send_amplitudes;
 use outside::Sink;
 use state_update::SlicedState;
 use std::alloc::Global;

@@ -1,6 +1,7 @@
 use crate::Cause;
 use crate::runs::{BELL, BELL_OUTPUT, CALM, H_H, H_T_H, ONE, alike, ended_by, repeated, run_on};
 use bit_lists::OutOfMemory;
+use std::alloc::Global;
 
 const LONG: &[u8] = b"OPENQASM 2.0;\nqreg q[1];\nx q[0];\nh q[0];t q[0];h q[0];t q[0];h q[0];\n";
 
@@ -165,19 +166,25 @@ fn ghz_on_64_qubits(rt: HostRuntime) -> Result<(), OutOfMemory> {
     Ok(())
 }
 
-// Pairs of qubits that lie far apart in the order want more than 2048 nodes. The step depends on what else is held.
-#[test]
-fn a_node_limit(rt: HostRuntime) -> Result<(), OutOfMemory> {
-    let mut text = Vec::from_slice(rt.alloc(), b"OPENQASM 2.0;\nqreg q[24];\nh q;\n")?;
+// On 24 qubits, pairs that lie far apart in the order: all of them are joined and parted again.
+fn far_pairs(alloc: Global) -> Result<Vec<u8>, OutOfMemory> {
+    let mut text = Vec::from_slice(alloc, b"OPENQASM 2.0;\nqreg q[24];\nh q;\n")?;
     for i in 0..12u8 {
-        let line = format!(in rt.alloc(); "cz q[{i}],q[{}];\n", 23 - i)?;
+        let line = format!(in alloc; "cz q[{i}],q[{}];\n", 23 - i)?;
         text.extend_from_slice(line.as_bytes())?;
     }
     for i in 0..12u8 {
-        let line = format!(in rt.alloc(); "cz q[{}],q[{}];\n", 11 - i, 12 + i)?;
+        let line = format!(in alloc; "cz q[{}],q[{}];\n", 11 - i, 12 + i)?;
         text.extend_from_slice(line.as_bytes())?;
     }
     text.extend_from_slice(b"h q;\n")?;
+    Ok(text)
+}
+
+// They want more than 2048 nodes in the natural order. The step depends on what else is held.
+#[test]
+fn a_node_limit(rt: HostRuntime) -> Result<(), OutOfMemory> {
+    let text = far_pairs(rt.alloc())?;
     let ran = run_on(
         rt.alloc(),
         &["sliq", "sim", "a", "--nodes", "2048"],
@@ -200,6 +207,24 @@ fn a_node_limit(rt: HostRuntime) -> Result<(), OutOfMemory> {
         CALM,
     )?;
     assert!(rt; ended_by(&ran, 0, &Cause::Done));
+    Ok(())
+}
+
+// A sift before each gate keeps the pairs together, and they want fewer.
+#[test]
+fn sifts_under_a_node_limit(rt: HostRuntime) -> Result<(), OutOfMemory> {
+    let text = far_pairs(rt.alloc())?;
+    let ran = run_on(
+        rt.alloc(),
+        &["sliq", "sim", "a", "--nodes", "2048", "--sift", "1"],
+        &text,
+        CALM,
+    )?;
+    assert!(rt; ended_by(&ran, 0, &Cause::Done));
+    assert_eq!(rt;
+        ran.out.written(),
+        b"qubits 24\n|000000000000000000000000> (0,0,0,1)/sqrt2^0\nstates 1\n".as_slice()
+    );
     Ok(())
 }
 

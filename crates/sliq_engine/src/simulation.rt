@@ -3,9 +3,9 @@ ghost use Rattle.std.specs.Prelude.{◌≡◌, ◌≤◌, length, IfOk, IfErr, O
 ghost use Rattle.sliq_engine.specs.Steps.{SameQubits, Simulates, zeros};
 ghost use Rattle.sliq_engine.specs.Ending.{MayStopBy};
 
-use crate::cause::Cause;
 use amp_dense::{Amplitudes, Rules};
 use bit_lists::Bits;
+use causes::Cause;
 use gate_set::Circuit;
 use std::alloc::Global;
 

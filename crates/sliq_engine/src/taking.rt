@@ -5,7 +5,7 @@ ghost use Rattle.sliq_engine.specs.Taking.{TakesFile, Takes};
 ghost use Rattle.sliq_engine.specs.Ending.{MayStopBy};
 ghost use Rattle.sliq_engine.specs.Private.{bytes_of};
 
-use crate::cause::Cause;
+use causes::Cause;
 use outside::{Shelf, TakeStop, read_all};
 use std::alloc::Global;
 

@@ -4,13 +4,12 @@ ghost use Rattle.outside.specs.Outside.{Rose, SameTexts, NoneFalls};
 ghost use Rattle.sliq_words.specs.Asked.{asked_of, command_in, files_of};
 ghost use Rattle.sliq_engine.specs.Comes.{Comes};
 ghost use Rattle.sliq_engine.specs.Ending.{MayEnd};
-ghost use Rattle.sliq_engine.specs.Status.{Tells, status_of, lines_of};
+ghost use Rattle.causes.specs.Status.{Tells, status_of, lines_of};
 
-use crate::cause::{Cause, Ended};
-use crate::message::lines_of;
 use crate::perform::perform;
 use crate::taking::take_all;
-use outside::{Shelf, Sink, write_all};
+use causes::{Cause, Ended, end};
+use outside::{Shelf, Sink};
 use sliq_words::{AskStop, ask};
 use std::alloc::Global;
 
@@ -40,21 +39,6 @@ pub fn run<S: Shelf, K: Sink, E: Sink>(
 {
     let cause = carry_out(alloc, words, shelf, out);
     end(cause, err)
-}
-
-/// Says a cause on `err`, where it has lines there, and answers it with its status. It takes no memory.
-pub fn end<E: Sink>(cause: Cause, err: &mut E) -> Ended
-    ensures cause { result.cause ≡ cause }
-    ensures status { result.status ≡ status_of cause }
-    ensures err { Tells (lines_of cause) (E.written err.old) (E.written err.new) (E.faults err.old) (E.faults err.new) }
-    ensures counts { E.faults err.old ≤ E.faults err.new }
-{
-    let lines = lines_of(&cause);
-    let _ = write_all(err, lines.as_bytes());
-    Ended {
-        status: cause.status(),
-        cause,
-    }
 }
 
 // The same but for err.

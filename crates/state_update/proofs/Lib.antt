@@ -2,5 +2,8 @@ pub mod Ends
 pub mod Enough
 pub mod GateSteps
 pub mod NodeLemmas
-pub mod StateLemmas
+pub mod NodesKept
+pub mod Orders
+pub mod RunLemmas
 pub mod Shown
+pub mod StateLemmas

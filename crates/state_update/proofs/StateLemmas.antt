@@ -61,7 +61,7 @@ kept_start input rules gates d q few are none sound order limit h = rw none begu
       few_gates = omega arith;
       within = All-nil (IsOn (length input));
       sound = sound;
-      order = order;
+      variables = size_of_order d.store.order (length input) order;
       limit = limit;
       stands = h.stands;
       shows = start_shows d.store input q h (size_of_order d.store.order (length input) order);
@@ -72,16 +72,16 @@ kept_start input rules gates d q few are none sound order limit h = rw none begu
 
 -- ---- one gate more
 pub kept_next : (s : State) (g : Gate) (gates : List Gate) (v : StoreAndCache) (r : SliceQuad) → IsKept s → IsOn (length s.input) g → length s.gates < 2000000 → gates ≡ s.gates ++ g ∷ []
-    → IsConsistent v → v.store.order ≡ s.diagrams.store.order → v.store.limit ≡ s.diagrams.store.limit → Stands v.store r
+    → IsConsistent v → length v.store.order ≡ length s.diagrams.store.order → v.store.limit ≡ s.diagrams.store.limit → Stands v.store r
     → Shows v.store r (step (length s.diagrams.store.order) (work s.gates s.input) g) → length r.four.a ≤ s.rules.width → r.kept ≡ s.quad.kept
     → IsKept (state_with s.input s.rules gates v r)
-kept_next s g gates v r h on few more sound order limit stands shows narrow kept = rw more next
+kept_next s g gates v r h on few more sound variables limit stands shows narrow kept = rw more next
   where
     n : ℕ
     n = length s.input
 
     size : length s.diagrams.store.order ≡ n
-    size = size_of_order s.diagrams.store.order n h.order
+    size = h.variables
 
     w : Scaled
     w = work (s.gates ++ g ∷ []) s.input
@@ -98,7 +98,7 @@ kept_next s g gates v r h on few more sound order limit stands shows narrow kept
       few_gates = omega (arith, long, few);
       within = All-append (IsOn n) s.gates (g ∷ []) h.within (All-cons (IsOn n) g [] on (All-nil (IsOn n)));
       sound = sound;
-      order = order ∙ h.order;
+      variables = variables ∙ h.variables;
       limit = limit ∙ h.limit;
       stands = stands;
       shows = subst (λ (u : Scaled). Shows v.store r u) vector shows;
@@ -113,14 +113,14 @@ kept_next s g gates v r h on few more sound order limit stands shows narrow kept
     }
 
 -- after a stop
-pub kept_stop : (s : State) (v : StoreAndCache) → IsKept s → IsConsistent v → v.store.order ≡ s.diagrams.store.order → v.store.limit ≡ s.diagrams.store.limit → Stands v.store s.quad
+pub kept_stop : (s : State) (v : StoreAndCache) → IsKept s → IsConsistent v → length v.store.order ≡ length s.diagrams.store.order → v.store.limit ≡ s.diagrams.store.limit → Stands v.store s.quad
     → Shows v.store s.quad (work s.gates s.input) → IsKept (state_with s.input s.rules s.gates v s.quad)
-kept_stop s v h sound order limit stands shows = record {
+kept_stop s v h sound variables limit stands shows = record {
   few_qubits = h.few_qubits;
   few_gates = h.few_gates;
   within = h.within;
   sound = sound;
-  order = order ∙ h.order;
+  variables = variables ∙ h.variables;
   limit = limit ∙ h.limit;
   stands = stands;
   shows = shows;
@@ -132,7 +132,7 @@ kept_stop s v h sound order limit stands shows = record {
 -- ---- what is read
 pub entry_is : (s : State) (x : List Bool) → IsKept s → length x ≡ length s.input → entries_in s.diagrams.store s.quad.four x ≡ (work s.gates s.input).entries x
 unfolding entries_in
-entry_is s x h len = sym (h.shows.entries x (len ∙ sym (size_of_order s.diagrams.store.order (length s.input) h.order)))
+entry_is s x h len = sym (h.shows.entries x (len ∙ sym h.variables))
 
 pub next_is : (s : State) (m : ℕ) (given : Option (List Bool)) (x : List Bool) → IsKept s → m ≡ length s.input → IsNextNonzero m (entries_in s.diagrams.store s.quad.four) given x
     → amplitudes.IsNextNonzero (length s.input) (work s.gates s.input).entries given x
@@ -185,13 +185,13 @@ number_is s m h size =
 -- ---- what a gate's step says, in the words of the state
 pub fits_state : (s : State) (g : Gate) (width : ℕ) → IsKept s → width ≡ s.rules.width → FitsWidth (length s.diagrams.store.order) width (raw g (work s.gates s.input)).entries → Fits (standing_of s) g
 fits_state s g width h e fits =
-    let size = size_of_order s.diagrams.store.order (length s.input) h.order in
+    let size = h.variables in
     let here : FitsWidth (length s.input) width (raw g (work s.gates s.input)).entries = subst (λ n. FitsWidth n width (raw g (work s.gates s.input)).entries) size fits in
     subst (λ n. FitsWidth (length s.input) n (raw g (work s.gates s.input)).entries) e here
 
 pub state_fits : (s : State) (g : Gate) (width : ℕ) → IsKept s → width ≡ s.rules.width → Fits (standing_of s) g → FitsWidth (length s.diagrams.store.order) width (raw g (work s.gates s.input)).entries
 state_fits s g width h e fits =
-    let size = size_of_order s.diagrams.store.order (length s.input) h.order in
+    let size = h.variables in
     let here : FitsWidth (length s.input) width (raw g (work s.gates s.input)).entries = subst (λ n. FitsWidth (length s.input) n (raw g (work s.gates s.input)).entries) (sym e) fits in
     subst (λ n. FitsWidth n width (raw g (work s.gates s.input)).entries) (sym size) here
 

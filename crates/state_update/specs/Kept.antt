@@ -1,10 +1,11 @@
 -- What contracts see of a state that is kept as integers over decision diagrams, and how they keep it.
-use Rattle.std.specs.Prelude.{◌≡◌, ◌≤◌, ℕ, Bool, false, List, length, All}
-use Rattle.std.specs.List.{range_with_len}
+use Rattle.std.specs.Prelude.{◌≡◌, ◌≤◌, ℕ, Bool, false, List, length, All, Result, Err}
 use Rattle.gate_set.specs.declared.gate.Gate.{Gate}
 use Rattle.gate_set.specs.Shape.{IsOn}
 use Rattle.circuit_model.specs.Working.{work}
 use Rattle.amp_dense.specs.Rules.{Settings}
+use Rattle.amp_dense.specs.declared.stop.Stop.{Stop}
+use Rattle.amp_dense.specs.declared.stop.Stop.TheVariants.{OutOfMemory}
 use Rattle.amp_dense.specs.Standing.{Standing, Policy, vector, with_gate}
 use Rattle.diagram_model.specs.Functions.{Function}
 use Rattle.diagram_model.specs.Size.{size}
@@ -14,6 +15,7 @@ use Rattle.slice_quad.specs.declared.quad.SliceQuad.{SliceQuad}
 use Rattle.slice_quad.specs.Vectors.{Stands}
 use Rattle.slice_gates.specs.GateWork.{gate_work}
 use Rattle.slice_gates.specs.Shown.{Shows, by_values}
+use Rattle.step_upkeep.specs.Due.{IsInForce, IsLeft}
 use Rattle.step_upkeep.specs.Stored.{stored_functions}
 
 -- the input, the rules, the gates accepted so far, and the diagrams with the integers
@@ -34,7 +36,7 @@ pub record IsKept (s : State) : Type 0 where
   pub few_gates : length s.gates ≤ 2000000
   pub within : All (IsOn (length s.input)) s.gates
   pub sound : IsConsistent s.diagrams
-  pub order : s.diagrams.store.order ≡ range_with_len 0 (length s.input)
+  pub variables : length s.diagrams.store.order ≡ length s.input
   pub limit : s.diagrams.store.limit ≡ s.rules.nodes
   pub stands : Stands s.diagrams.store s.quad
   pub shows : Shows s.diagrams.store s.quad (work s.gates s.input)
@@ -64,11 +66,20 @@ stored_of s = stored_functions s.rules.width never (by_values (length s.input) (
 abbrev pub needed : Standing → List Function → ℕ
 needed s fs = size (length s.order) s.order fs
 
--- Integers over diagrams keep the natural order. A gate may be refused for want of nodes where its work functions alone need as many as
+-- the order in force at the next gate: where a sift is due, the one that sifting all variables leads to, for the functions that the vector is stored by
+abbrev pub IsNextOrder : Standing → List ℕ → Type 0
+IsNextOrder s order = IsInForce s.rules.sift (length s.gates) (stored_of s) s.rules.nodes s.order order
+
+-- the order after the answer to a gate; after want of memory it may be any order of the variables where a sift was due
+abbrev pub Reorders : Standing → Result (Unit {0}) Stop → List ℕ → Type 0
+Reorders s (Err OutOfMemory) order = IsLeft s.rules.sift (length s.gates) s.order order
+Reorders s _ order = IsNextOrder s order
+
+-- Integers over diagrams change the order by sifting alone. A gate may be refused for want of nodes where its work functions alone need as many as
 -- the rules let the diagrams hold, and accepted where they may hold as many as the vector is stored by afterwards.
 abbrev pub sliced_policy : Policy
 sliced_policy = record {
-  may_reorder = λ s result order. order ≡ s.order;
+  may_reorder = Reorders;
   may_refuse = λ s g. s.rules.nodes ≤ needed s (work_of s g);
   may_accept = λ s g. needed s (stored_of (with_gate s g)) ≤ s.rules.nodes;
 }

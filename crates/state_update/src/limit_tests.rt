@@ -116,7 +116,7 @@ fn limited(nodes: u32, reclaim: u32) -> Rules
 }
 
 /// The state before the first gate.
-fn begun<A: Amplitudes>(rt: &impl Abort, alloc: Global, qubits: u8, rules: &Rules) -> A
+pub(crate) fn begun<A: Amplitudes>(rt: &impl Abort, alloc: Global, qubits: u8, rules: &Rules) -> A
     requires few { qubits ≤ 12 }
     requires most { 12 ≤ A.MOST }
     ensures { length (A.standing result).input ≡ qubits }
@@ -128,7 +128,7 @@ fn begun<A: Amplitudes>(rt: &impl Abort, alloc: Global, qubits: u8, rules: &Rule
 }
 
 /// Applies a gate.
-fn applied<A: Amplitudes>(
+pub(crate) fn applied<A: Amplitudes>(
     rt: &impl Abort,
     alloc: Global,
     state: &mut A,
@@ -240,7 +240,7 @@ fn expect_same(rt: &impl Abort, sliced: &SlicedState, dense: &DenseState, qubits
 }
 
 /// Whether an order is the natural one, of so many variables.
-fn is_natural(order: &Order, vars: u8) -> bool {
+pub(crate) fn is_natural(order: &Order, vars: u8) -> bool {
     if order.len() != vars {
         return false;
     }

@@ -2,7 +2,7 @@
 ghost use Rattle.std.specs.Prelude.{◌≡◌, ◌≤◌, ◌<◌, length, All, IfOk, IfErr, OnOk, OnErr, IfSome, IfNone};
 
 use amp_dense::{Amplitudes, Rules, Stop};
-use bit_lists::{Bits, OutOfMemory};
+use bit_lists::{Bits, Order, OutOfMemory};
 use diagram_ops::Diagrams;
 use gate_set::Gate;
 use ring_omega::Quad;
@@ -10,20 +10,20 @@ use slice_quad::{QuadStop, SliceQuad, entry, exponent, next_nonzero, start};
 use slice_weights::{Walk, count_nonzero, last_nonzero};
 use std::alloc::Global;
 use std::marker::Model;
-use step_upkeep::upkept_gate;
+use step_upkeep::{Schedule, upkept_gate};
 
 /// The working vector of at most 64 qubits, as integers over decision diagrams with a variable for each qubit.
 ///
 /// A gate takes the time of the connectives of its step: what it costs depends on how many functions the bits of the
 /// vector share, not on the number of basis states. Nodes that are no longer wanted are reclaimed after every so many
-/// gates, as the rules say, and where the diagrams are full.
+/// gates, as the rules say, and where the diagrams are full. All variables are sifted after every so many gates, as the rules say.
 #[derive(Drop)]
 pub struct SlicedState {
     input: Bits,
     rules: Rules,
     gates: Vec<Gate>,
-    diagrams: Diagrams,
-    quad: SliceQuad,
+    pub(crate) diagrams: Diagrams,
+    pub(crate) quad: SliceQuad,
 }
 
 impl Model for SlicedState {
@@ -54,17 +54,27 @@ impl SlicedState {
         let _held = self.diagrams.cached();
         (&self.diagrams, &self.quad)
     }
+
+    /// The order of variables in force, top first. It takes no memory.
+    pub fn order(&self) -> Order
+        ensures { result ≡ (standing_of self.now).order }
+    {
+        self.diagrams.store().order()
+    }
 }
 
-/// After how many gates nodes are reclaimed, where 0 is never.
-fn gates_between(rules: &Rules) -> u32
-    ensures { result ≡ rules.now.reclaim }
+/// After how many gates nodes are reclaimed, and after how many variables are sifted.
+fn schedule_of(rules: &Rules) -> Schedule
+    ensures { result ≡ record { reclaim = rules.now.reclaim; sift = rules.now.sift } }
 {
-    rules.reclaim
+    Schedule {
+        reclaim: rules.reclaim,
+        sift: rules.sift,
+    }
 }
 
 impl Amplitudes for SlicedState {
-    ghost use Rattle.std.specs.Prelude.{◌≡◌, ◌<◌, true, IfErr, OnOk, OnErr, length};
+    ghost use Rattle.std.specs.Prelude.{◌≡◌, ◌<◌, true, false, IfErr, OnOk, OnErr, length};
     ghost use Rattle.gate_set.specs.Shape.{IsOn};
     ghost use Rattle.amp_dense.specs.Standing.{Standing, Accepts, Applies, MayStop, NamesOrder, in_order};
     ghost use Rattle.node_reclaim.specs.Reclaims.{HoldsOnly};
@@ -101,9 +111,9 @@ impl Amplitudes for SlicedState {
         })
     }
 
-    /// Where a reclaim is due, the nodes that the vector isn't stored by are freed first. Where the diagrams are full in the middle of the gate,
-    /// they are freed too, and the gate is tried once more. `Nodes` comes only where the gate's work functions alone need as many nodes as
-    /// the rules allow.
+    /// Where a sift is due, all variables are sifted first, for the functions that the vector is stored by. Where a reclaim is due, the nodes that the
+    /// vector isn't stored by are freed first. Where the diagrams are full in the middle of the gate, they are freed too, and the gate is tried
+    /// once more. `Nodes` comes only where the gate's work functions alone need as many nodes as the rules allow, in the order in force.
     fn apply(&mut self, alloc: Global, gate: &Gate) -> Result<(), Stop>
         requires within { IsOn (length (standing_of self.old).input) gate.now }
         requires few { length (standing_of self.old).gates < 2000000 }
@@ -112,20 +122,20 @@ impl Amplitudes for SlicedState {
         ensures in_force { IfErr result (NamesOrder (standing_of self.new).order) }
         ensures refused { OnErr result (standing_of self.new ≡ in_order (standing_of self.old) (standing_of self.new).order) }
         ensures order { sliced_policy.may_reorder (standing_of self.old) result (standing_of self.new).order }
-        ensures after_reclaim { is_due (standing_of self.old).rules.reclaim (length (standing_of self.old).gates) ≡ true → OnOk result (HoldsOnly self.new.diagrams.store (InWork (standing_of self.old) gate.now)) }
+        ensures after_reclaim { is_due (standing_of self.old).rules.reclaim (length (standing_of self.old).gates) ≡ true → is_due (standing_of self.old).rules.sift (length (standing_of self.old).gates) ≡ false → OnOk result (HoldsOnly self.new.diagrams.store (InWork (standing_of self.old) gate.now)) }
     {
         let gates = self.accepted();
         let number = gates + 1;
         self.gates.reserve(1)?;
         let width = self.rules.width();
-        let every = gates_between(&self.rules);
+        let schedule = schedule_of(&self.rules);
         match upkept_gate(
             alloc,
             &mut self.diagrams,
             &mut self.quad,
             gate,
             width,
-            every,
+            schedule,
             gates,
         ) {
             Ok(()) => {
@@ -160,7 +170,7 @@ impl Amplitudes for SlicedState {
     }
 
     fn advance(&self, walk: &mut Walk) -> Result<Option<(Bits, Quad)>, OutOfMemory> {
-        walk.advance(&self.diagrams, &self.quad.four)
+        walk.advance(&self.diagrams, &self.quad)
     }
 
     fn last_nonzero(&self, alloc: Global) -> Result<Option<Bits>, OutOfMemory> {

@@ -29,6 +29,7 @@ use Rattle.slice_quad.specs.Stepping.{work_functions, IsWork}
 use Rattle.slice_quad.specs.Vectors.{vector_in, Stands}
 use Rattle.slice_quad.proofs.Onwards.{vector_on}
 use Rattle.slice_quad.proofs.StepCalls.{whole_of, stands_later}
+use Rattle.step_upkeep.specs.Tried.{IsStill}
 use Rattle.step_upkeep.specs.Upkept.{KeepsQuad, InQuad, functions_in, work_in}
 use Rattle.step_upkeep.proofs.Roots.{in_nodes, roots_live, live_stands, one_of_map, quad_wanted}
 
@@ -48,18 +49,25 @@ pub integers_of : (d : Diagram) (q : SliceQuad) → Stands d q → AreIntegers d
 integers_of d q h = whole_of d q h q.width_b q.width_c q.width_d
 
 pub keeps_same : (u : StoreAndCache) (q : SliceQuad) → IsConsistent u → Stands u.store q → KeepsQuad u q u
-keeps_same u q sound h = record { sound = sound; order = refl; limit = refl; capacity = refl; stands = h; vector = refl; function = refl }
+keeps_same u q sound h = record { sound = sound; variables = refl; limit = refl; capacity = refl; stands = h; vector = refl; function = refl }
 
 pub keeps_then : (u v w : StoreAndCache) (q : SliceQuad) → KeepsQuad u q v → KeepsQuad v q w → KeepsQuad u q w
 keeps_then u v w q a b = record {
   sound = b.sound;
-  order = b.order ∙ a.order;
+  variables = b.variables ∙ a.variables;
   limit = b.limit ∙ a.limit;
   capacity = b.capacity ∙ a.capacity;
   stands = b.stands;
   vector = b.vector ∙ a.vector;
   function = b.function ∙ a.function;
 }
+
+-- in the same order too
+pub still_same : (u : StoreAndCache) (q : SliceQuad) → IsConsistent u → Stands u.store q → IsStill u q u
+still_same u q sound h = record { keeps = keeps_same u q sound h; order = refl }
+
+pub still_then : (u v w : StoreAndCache) (q : SliceQuad) → IsStill u q v → IsStill v q w → IsStill u q w
+still_then u v w q a b = record { keeps = keeps_then u v w q a.keeps b.keeps; order = b.order ∙ a.order }
 
 -- ---- a reclaim to its roots
 -- the roots are live, as `reclaim` asks for
@@ -72,7 +80,7 @@ keeps_reclaimed u v q roots are h live kept sound order limit capacity =
     let stands : Stands v.store q = live_stands u.store v.store q h (λ n is. in_nodes (IsLive v.store) roots live n (subst (λ (l : List ℕ). is_in l n ≡ true) (sym are) is)) in
     record {
       sound = sound;
-      order = order;
+      variables = ap length order;
       limit = limit;
       capacity = capacity;
       stands = stands;
@@ -91,13 +99,16 @@ holds_reclaimed u v q roots are su sv left kept =
 pub keeps_grown : (u v : StoreAndCache) (Is : Property) (q : SliceQuad) → IsConsistent u → Grows u Is v → Stands u.store q → KeepsQuad u q v
 keeps_grown u v Is q sound g h = record {
   sound = g.sound;
-  order = g.extends.order;
+  variables = ap length g.extends.order;
   limit = g.extends.limit;
   capacity = g.capacity;
   stands = stands_later u v Is q g h;
   vector = vector_on u v Is (length q.four.a) q.four sound g (integers_of u.store q h);
   function = function_on u.store v.store q.kept.0 sound.store g.sound.store g.extends h.kept;
 }
+
+pub still_grown : (u v : StoreAndCache) (Is : Property) (q : SliceQuad) → IsConsistent u → Grows u Is v → Stands u.store q → IsStill u q v
+still_grown u v Is q sound g h = record { keeps = keeps_grown u v Is q sound g h; order = g.extends.order }
 
 pub holds_grown : (u v : StoreAndCache) (Is : Property) → IsConsistent u → Grows u Is v → HoldsOnly u.store Is → HoldsOnly v.store Is
 holds_grown u v Is sound g h = made_holds u.store v.store Is sound.store g.sound.store g.extends g.made h
@@ -115,11 +126,11 @@ work_same u v s q k =
     let w = length q.four.a in
     ap (λ (f : Function). work_functions w f s (vector_in v.store q.four)) k.function ∙ ap (λ (x : Vector). work_functions w (function_of u.store q.kept.0) s x) k.vector
 
-pub work_back : (u v : StoreAndCache) (s : Step) (q : SliceQuad) → KeepsQuad u q v → (p : Function) → IsWork v.store s q p → IsWork u.store s q p
-work_back u v s q k p h = over_list v.store.order u.store.order (work_in v.store s q) (work_in u.store s q) p k.order (work_same u v s q k) h
+pub work_back : (u v : StoreAndCache) (s : Step) (q : SliceQuad) → IsStill u q v → (p : Function) → IsWork v.store s q p → IsWork u.store s q p
+work_back u v s q k p h = over_list v.store.order u.store.order (work_in v.store s q) (work_in u.store s q) p k.order (work_same u v s q k.keeps) h
 
-pub work_on : (u v : StoreAndCache) (s : Step) (q : SliceQuad) → KeepsQuad u q v → (p : Function) → IsWork u.store s q p → IsWork v.store s q p
-work_on u v s q k p h = over_list u.store.order v.store.order (work_in u.store s q) (work_in v.store s q) p (sym k.order) (sym (work_same u v s q k)) h
+pub work_on : (u v : StoreAndCache) (s : Step) (q : SliceQuad) → IsStill u q v → (p : Function) → IsWork u.store s q p → IsWork v.store s q p
+work_on u v s q k p h = over_list u.store.order v.store.order (work_in u.store s q) (work_in v.store s q) p (sym k.order) (sym (work_same u v s q k.keeps)) h
 
 -- what is left after a reclaim is among them
 pub reclaimed_wanted : (u : StoreAndCache) (d : Diagram) (s : Step) (q : SliceQuad) → Stands u.store q → HoldsOnly d (InQuad u.store q) → HoldsOnly d (IsWork u.store s q)
@@ -130,9 +141,8 @@ over_order : (vs ws : List ℕ) (fs : List Function) (p : Function) → vs ≡ w
 over_order vs ws fs p e h = subst (λ (l : List ℕ). IsPrefixOfSome l fs p) e h
 
 -- Where a full store holds nothing but functions that arise from a list, the list needs as many nodes as the limit.
-pub full_needs : (d e : Diagram) (fs : List Function) → IsSound e → e.order ≡ d.order → e.limit ≡ d.limit → held e ≡ e.limit → HoldsOnly e (IsPrefixOfSome d.order fs) → d.limit ≤ size (length d.order) d.order fs
-full_needs d e fs sound order limit full all =
+pub full_needs : (d e : Diagram) (fs : List Function) → IsSound e → e.order ≡ d.order → held e ≡ e.limit → HoldsOnly e (IsPrefixOfSome d.order fs) → e.limit ≤ size (length e.order) e.order fs
+full_needs d e fs sound order full all =
     let here : HoldsOnly e (IsPrefixOfSome e.order fs) = λ n p is. over_order d.order e.order fs (function_of e n) (sym order) (all n p is) in
     let le : held e ≤ size (length e.order) e.order fs = held-le e fs sound here in
-    let same : size (length e.order) e.order fs ≡ size (length d.order) d.order fs = ap (λ (l : List ℕ). size (length l) l fs) order in
-    omega (arith, le, same, full, limit)
+    omega (arith, le, full)

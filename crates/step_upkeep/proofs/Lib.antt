@@ -1,8 +1,10 @@
 pub mod Digits
 pub mod Enough
 pub mod Gates
+pub mod InForce
 pub mod Keeping
 pub mod Roots
+pub mod Sifted
 pub mod StepFor
 pub mod Stored
 pub mod StoredAfter

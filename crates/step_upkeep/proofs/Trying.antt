@@ -1,9 +1,9 @@
--- A step that is tried once, and once more after a reclaim.
-use Rattle.std.proofs.Common.{◌≡◌, ℕ, ◌+◌, true, false, List, length, Result, Ok, Err, sym, ◌∙◌, ap, subst, arith}
+-- A step that is tried once, and once more after a reclaim, with upkeep before.
+use Rattle.std.proofs.Common.{◌≡◌, ℕ, ◌+◌, true, false, List, Result, Ok, Err, sym, ◌∙◌, subst}
 use Rattle.std.specs.Prelude.{IfErr, OnOk, OnErr}
 use Rattle.std.proofs.lemmas.Bool.{false≢true}
 use Rattle.diagram_model.specs.Functions.{Function}
-use Rattle.diagram_model.specs.Size.{size}
+use Rattle.diagram_model.specs.Stores.{Diagram}
 use Rattle.diagram_ops.specs.Diagrams.{StoreAndCache, IsConsistent}
 use Rattle.diagram_ops.specs.Made.{Property}
 use Rattle.node_reclaim.specs.Reclaims.{HoldsOnly}
@@ -18,9 +18,11 @@ use Rattle.slice_quad.specs.Settled.{IsSettled}
 use Rattle.slice_quad.specs.Stepping.{stepped, half_of, IsWork}
 use Rattle.slice_quad.specs.Stops.{OnWidth, QuadStopIs}
 use Rattle.slice_quad.specs.Vectors.{FitsWidth, Stands}
-use Rattle.step_upkeep.specs.Tried.{IsAnswer, IsStepped, IsTried, is_full}
-use Rattle.step_upkeep.specs.Upkept.{KeepsQuad, InQuad, NeedsNodes, work_in}
-use Rattle.step_upkeep.proofs.Keeping.{keeps_then, keeps_grown, holds_grown, holds_wider, work_same, work_back, work_on, reclaimed_wanted, full_needs}
+use Rattle.step_upkeep.specs.declared.upkeep.Schedule.{Schedule}
+use Rattle.step_upkeep.specs.Due.{is_due, IsInForce, IsLeft}
+use Rattle.step_upkeep.specs.Tried.{IsAnswer, IsStepped, IsStill, IsTried, is_full}
+use Rattle.step_upkeep.specs.Upkept.{KeepsQuad, InQuad, NeedsNodes, Reorders, functions_in, work_in}
+use Rattle.step_upkeep.proofs.Keeping.{keeps_then, still_then, still_grown, holds_grown, holds_wider, work_same, work_back, work_on, reclaimed_wanted, full_needs}
 
 abbrev pub Answer : Type 0
 Answer = Result (Unit {0}) QuadStop
@@ -38,17 +40,17 @@ answer_on u v w s q r width o k h = record {
 }
 
 -- ---- one try is enough
-not_needed : (u v : StoreAndCache) (Is : Property) (fs : List Function) (o : Answer) → is_full o ≡ false → IfErr o (NeedsNodes u.store fs)
-not_needed u v Is fs (Ok x) less = tt
-not_needed u v Is fs (Err quads.Width) less = tt
-not_needed u v Is fs (Err (quads.Full held)) less = absurd (false≢true (sym less))
-not_needed u v Is fs (Err quads.OutOfMemory) less = tt
+not_needed : (d : Diagram) (fs : List Function) (o : Answer) → is_full o ≡ false → IfErr o (NeedsNodes d fs)
+not_needed d fs (Ok x) less = tt
+not_needed d fs (Err quads.Width) less = tt
+not_needed d fs (Err (quads.Full held)) less = absurd (false≢true (sym less))
+not_needed d fs (Err quads.OutOfMemory) less = tt
 
 pub tried_once : (u v : StoreAndCache) (s : Step) (q r : SliceQuad) (width : ℕ) (o : Answer) → IsConsistent u → Stands u.store q → is_full o ≡ false → IsStepped u v s q r width o → IsTried u v s q r width o
 tried_once u v s q r width o sound stands less h = record {
   told = h.told;
-  full = not_needed u v (IsWork u.store s q) (work_in u.store s q) o less;
-  keeps = keeps_grown u v (IsWork u.store s q) q sound h.grows stands;
+  full = not_needed v.store (work_in u.store s q) o less;
+  still = still_grown u v (IsWork u.store s q) q sound h.grows stands;
   holds = λ all. holds_grown u v (IsWork u.store s q) sound h.grows all;
 }
 
@@ -67,12 +69,12 @@ tried_stopped u v w s q r width o sound stands full h same = subst (λ (x : Stor
     here = record {
       told = record { settled = tt; fits = tt; narrow = tt; unfit = tt; refused = first_same o q r full h.told.refused; kept = h.told.kept; stands = h.told.stands };
       full = tt;
-      keeps = keeps_grown u v (IsWork u.store s q) q sound h.grows stands;
+      still = still_grown u v (IsWork u.store s q) q sound h.grows stands;
       holds = λ all. holds_grown u v (IsWork u.store s q) sound h.grows all;
     }
 
 -- after a reclaim
-module _ (u v w : StoreAndCache) (s : Step) (q r : SliceQuad) (width : ℕ) (o : Answer) (k : KeepsQuad u q v) (stands : Stands u.store q) (clean : HoldsOnly v.store (IsWork u.store s q)) (h : IsStepped v w s q r width o) where
+module _ (u v w : StoreAndCache) (s : Step) (q r : SliceQuad) (width : ℕ) (o : Answer) (k : IsStill u q v) (stands : Stands u.store q) (clean : HoldsOnly v.store (IsWork u.store s q)) (h : IsStepped v w s q r width o) where
   abbrev Is : Property
   Is = IsWork u.store s q
 
@@ -80,63 +82,69 @@ module _ (u v w : StoreAndCache) (s : Step) (q r : SliceQuad) (width : ℕ) (o :
   wider = grows_wider v w (IsWork v.store s q) Is (work_back u v s q k) h.grows
 
   all : HoldsOnly w.store Is
-  all = holds_grown v w Is k.sound wider clean
+  all = holds_grown v w Is k.keeps.sound wider clean
 
-  needed : (p : Answer) → IfErr p (QuadStopIs w.store (IsWork v.store s q)) → IfErr p (NeedsNodes u.store (work_in u.store s q))
+  needed : (p : Answer) → IfErr p (QuadStopIs w.store (IsWork v.store s q)) → IfErr p (NeedsNodes w.store (work_in u.store s q))
   needed (Ok x) stop = tt
   needed (Err quads.Width) stop = tt
-  needed (Err (quads.Full n)) stop =
-      let order = wider.extends.order ∙ k.order in
-      let limit = wider.extends.limit ∙ k.limit in
-      (stop.0 ∙ limit, full_needs u.store w.store (work_in u.store s q) wider.sound.store order limit stop.1.full all)
+  needed (Err (quads.Full n)) stop = (stop.0, full_needs u.store w.store (work_in u.store s q) wider.sound.store (wider.extends.order ∙ k.order) stop.1.full all)
   needed (Err quads.OutOfMemory) stop = tt
 
   pub tried_clean : IsTried u w s q r width o
   tried_clean = record {
-    told = answer_on u v w s q r width o k h.told;
+    told = answer_on u v w s q r width o k.keeps h.told;
     full = needed o h.full;
-    keeps = keeps_then u v w q k (keeps_grown v w (IsWork v.store s q) q k.sound h.grows k.stands);
+    still = still_then u v w q k (still_grown v w (IsWork v.store s q) q k.keeps.sound h.grows k.keeps.stands);
     holds = λ before. all;
   }
 
 -- the first try was full, the reclaim left v as w, and the second try as x
 pub tried_again : (u v w x : StoreAndCache) (s : Step) (q m r : SliceQuad) (width : ℕ) (o a : Answer) → IsConsistent u → Stands u.store q → is_full o ≡ true → IsStepped u v s q m width o
-    → KeepsQuad v m w → HoldsOnly w.store (InQuad v.store m) → IsStepped w x s m r width a → IsTried u x s q r width a
+    → IsStill v m w → HoldsOnly w.store (InQuad v.store m) → IsStepped w x s m r width a → IsTried u x s q r width a
 tried_again u v w x s q m r width o a sound stands full first keeps clean second =
     let same : m ≡ q = first_same o q m full first.told.refused in
-    let grown : KeepsQuad u q v = keeps_grown u v (IsWork u.store s q) q sound first.grows stands in
-    let kept : KeepsQuad v q w = subst (λ (p : SliceQuad). KeepsQuad v p w) same keeps in
-    let k : KeepsQuad u q w = keeps_then u v w q grown kept in
+    let grown : IsStill u q v = still_grown u v (IsWork u.store s q) q sound first.grows stands in
+    let kept : IsStill v q w = subst (λ (p : SliceQuad). IsStill v p w) same keeps in
+    let k : IsStill u q w = still_then u v w q grown kept in
     let mine : HoldsOnly w.store (InQuad v.store q) = subst (λ (p : SliceQuad). HoldsOnly w.store (InQuad v.store p)) same clean in
-    let wanted : HoldsOnly w.store (IsWork v.store s q) = reclaimed_wanted v w.store s q grown.stands mine in
+    let wanted : HoldsOnly w.store (IsWork v.store s q) = reclaimed_wanted v w.store s q grown.keeps.stands mine in
     let ours : HoldsOnly w.store (IsWork u.store s q) = holds_wider w.store (IsWork v.store s q) (IsWork u.store s q) (work_back u v s q grown) wanted in
     let again : IsStepped w x s q r width a = subst (λ (p : SliceQuad). IsStepped w x s p r width a) same second in
     tried_clean u w x s q r width a k stands ours again
 
--- ---- a due reclaim before
-needs_full : (u v : StoreAndCache) (s : Step) (q : SliceQuad) (n : ℕ) → KeepsQuad u q v → NeedsNodes v.store (work_in v.store s q) (quads.Full n) → NeedsNodes u.store (work_in u.store s q) (quads.Full n)
-needs_full u v s q n k h =
-    let same : size (length v.store.order) v.store.order (work_in v.store s q) ≡ size (length u.store.order) u.store.order (work_in u.store s q) =
-    ap (λ (l : List ℕ). size (length l) l (work_in v.store s q)) k.order ∙ ap (λ (fs : List Function). size (length u.store.order) u.store.order fs) (work_same u v s q k) in
-    let limit = k.limit in let most = h.1 in
-    (h.0 ∙ limit, omega (arith, same, limit, most))
-
+-- ---- upkeep before
 pub due_told : (u v w : StoreAndCache) (s : Step) (q r : SliceQuad) (width : ℕ) (o : Answer) → KeepsQuad u q v → IsTried v w s q r width o → IsAnswer u w s q r width o
 due_told u v w s q r width o k h = answer_on u v w s q r width o k h.told
 
-pub due_full : (u v : StoreAndCache) (s : Step) (q : SliceQuad) (o : Answer) → KeepsQuad u q v → IfErr o (NeedsNodes v.store (work_in v.store s q)) → IfErr o (NeedsNodes u.store (work_in u.store s q))
-due_full u v s q (Ok x) k h = tt
-due_full u v s q (Err quads.Width) k h = tt
-due_full u v s q (Err (quads.Full n)) k h = needs_full u v s q n k h
-due_full u v s q (Err quads.OutOfMemory) k h = tt
+pub due_full : (u v w : StoreAndCache) (s : Step) (q : SliceQuad) (o : Answer) → KeepsQuad u q v → IfErr o (NeedsNodes w.store (work_in v.store s q)) → IfErr o (NeedsNodes w.store (work_in u.store s q))
+due_full u v w s q o k h = subst (λ (fs : List Function). IfErr o (NeedsNodes w.store fs)) (work_same u v s q k) h
 
 on_ok : (o : Answer) (P : Type 0) → P → OnOk o P
 on_ok (Ok x) P h = h
 on_ok (Err e) P h = tt
 
 -- after a due reclaim no nodes are held but those of the work functions
-pub due_holds : (u v w : StoreAndCache) (s : Step) (q r : SliceQuad) (width : ℕ) (o : Answer) → Stands u.store q → KeepsQuad u q v → HoldsOnly v.store (InQuad u.store q) → IsTried v w s q r width o → OnOk o (HoldsOnly w.store (IsWork u.store s q))
-due_holds u v w s q r width o stands k clean h =
+pub due_holds : (u v w : StoreAndCache) (s : Step) (q r : SliceQuad) (width : ℕ) (o : Answer) → Stands u.store q → KeepsQuad u q v → v.store.order ≡ u.store.order → HoldsOnly v.store (InQuad u.store q) → IsTried v w s q r width o → OnOk o (HoldsOnly w.store (IsWork u.store s q))
+due_holds u v w s q r width o stands k order clean h =
+    let still : IsStill u q v = record { keeps = k; order = order } in
     let ours : HoldsOnly v.store (IsWork u.store s q) = reclaimed_wanted u v.store s q stands clean in
-    let theirs : HoldsOnly v.store (IsWork v.store s q) = holds_wider v.store (IsWork u.store s q) (IsWork v.store s q) (work_on u v s q k) ours in
-    on_ok o (HoldsOnly w.store (IsWork u.store s q)) (holds_wider w.store (IsWork v.store s q) (IsWork u.store s q) (work_back u v s q k) (h.holds theirs))
+    let theirs : HoldsOnly v.store (IsWork v.store s q) = holds_wider v.store (IsWork u.store s q) (IsWork v.store s q) (work_on u v s q still) ours in
+    on_ok o (HoldsOnly w.store (IsWork u.store s q)) (holds_wider w.store (IsWork v.store s q) (IsWork u.store s q) (work_back u v s q still) (h.holds theirs))
+
+-- the order after all
+pub left_order : (every gates : ℕ) (u v : StoreAndCache) (q : SliceQuad) → KeepsQuad u q v → (is_due every gates ≡ false → v.store.order ≡ u.store.order) → IsLeft every gates u.store.order v.store.order
+left_order every gates u v q k same = record {
+  is_order = record { once = k.sound.store.diagram.order; all = k.sound.store.all };
+  variables = k.variables;
+  same = same;
+}
+
+in_force_on : (every gates limit : ℕ) (fs : List Function) (old new after : List ℕ) → after ≡ new → IsInForce every gates fs limit old new → IsInForce every gates fs limit old after
+in_force_on every gates limit fs old new after e h = subst (λ (l : List ℕ). IsInForce every gates fs limit old l) (sym e) h
+
+pub reordered : (t : Schedule) (gates : ℕ) (u v w : StoreAndCache) (q : SliceQuad) (o : Answer) → KeepsQuad u q v → IsInForce t.sift gates (functions_in u.store q) u.store.limit u.store.order v.store.order
+    → (is_due t.sift gates ≡ false → v.store.order ≡ u.store.order) → IsStill v q w → Reorders t gates u.store q o w.store.order
+reordered t gates u v w q (Ok x) k new same still = in_force_on t.sift gates u.store.limit (functions_in u.store q) u.store.order v.store.order w.store.order still.order new
+reordered t gates u v w q (Err quads.Width) k new same still = in_force_on t.sift gates u.store.limit (functions_in u.store q) u.store.order v.store.order w.store.order still.order new
+reordered t gates u v w q (Err (quads.Full n)) k new same still = in_force_on t.sift gates u.store.limit (functions_in u.store q) u.store.order v.store.order w.store.order still.order new
+reordered t gates u v w q (Err quads.OutOfMemory) k new same still = left_order t.sift gates u w q (keeps_then u v w q k still.keeps) (λ due. still.order ∙ same due)

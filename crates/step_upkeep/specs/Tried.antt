@@ -20,6 +20,11 @@ is_full (Err quads.Width) = false
 is_full (Err (quads.Full held)) = true
 is_full (Err quads.OutOfMemory) = false
 
+-- the vector or matrix stands as before, in the same order
+pub record IsStill (old : StoreAndCache) (q : SliceQuad) (new : StoreAndCache) : Type 0 where
+  pub keeps : KeepsQuad old q new
+  pub order : new.store.order ≡ old.store.order
+
 -- what the step's answer says of the vector or matrix: q before and r after
 pub record IsAnswer (old new : StoreAndCache) (s : Step) (q r : SliceQuad) (w : ℕ) (answer : Result (Unit {0}) QuadStop) : Type 0 where
   pub settled : OnOk answer (IsSettled new.store (stepped s (vector_in old.store q.four)) (q.exponent + half_of s) r.four r.exponent)
@@ -39,6 +44,6 @@ pub record IsStepped (old new : StoreAndCache) (s : Step) (q r : SliceQuad) (w :
 -- the step was tried once, and once more after a reclaim where there were too few nodes
 pub record IsTried (old new : StoreAndCache) (s : Step) (q r : SliceQuad) (w : ℕ) (answer : Result (Unit {0}) QuadStop) : Type 0 where
   pub told : IsAnswer old new s q r w answer
-  pub full : IfErr answer (NeedsNodes old.store (work_in old.store s q))
-  pub keeps : KeepsQuad old q new
+  pub full : IfErr answer (NeedsNodes new.store (work_in old.store s q))
+  pub still : IsStill old q new
   pub holds : HoldsOnly old.store (IsWork old.store s q) → HoldsOnly new.store (IsWork old.store s q)

@@ -1,4 +1,4 @@
-//! Steps on a vector or matrix over diagrams, with nodes reclaimed where that is due or asked for.
+//! Steps on a vector or matrix over diagrams, with nodes reclaimed and variables sifted where that is due or asked for.
 #![tactic(auto)]
 
 mod gate;
@@ -7,7 +7,7 @@ mod upkeep;
 
 pub use gate::upkept_gate;
 pub use stepping::upkept_step;
-pub use upkeep::{is_due, reclaim_to};
+pub use upkeep::{Schedule, is_due, keep_up, reclaim_to, sift_to};
 
 #[cfg(test)]
 mod tests;

@@ -1,5 +1,5 @@
-//! One step on a vector or a matrix, with reclaims.
-ghost use Rattle.std.specs.Prelude.{◌≡◌, ◌+◌, ◌<◌, ◌≤◌, ◌^◌, IfErr, OnOk, OnErr, true, length};
+//! One step on a vector or a matrix, with upkeep.
+ghost use Rattle.std.specs.Prelude.{◌≡◌, ◌+◌, ◌<◌, ◌≤◌, ◌^◌, IfErr, OnOk, OnErr, true, false, length};
 ghost use Rattle.node_reclaim.specs.Reclaims.{HoldsOnly};
 ghost use Rattle.slice_quad.specs.Settled.{IsSettled};
 ghost use Rattle.slice_quad.specs.Stepping.{stepped, half_of, IsStepOn, IsWork};
@@ -7,9 +7,9 @@ ghost use Rattle.slice_quad.specs.Stops.{OnWidth};
 ghost use Rattle.slice_quad.specs.Vectors.{vector_in, FitsWidth, Stands};
 ghost use Rattle.step_upkeep.specs.Due.{is_due};
 ghost use Rattle.step_upkeep.specs.Tried.{IsStepped, IsTried, is_full};
-ghost use Rattle.step_upkeep.specs.Upkept.{KeepsQuad, NeedsNodes, work_in};
+ghost use Rattle.step_upkeep.specs.Upkept.{KeepsQuad, NeedsNodes, Reorders, work_in};
 
-use crate::upkeep::{reclaim_due, reclaim_to};
+use crate::upkeep::{Schedule, keep_up, reclaim_to};
 use diagram_ops::Diagrams;
 use slice_quad::{QuadStop, SliceQuad, Step, step};
 use std::alloc::Global;
@@ -64,18 +64,18 @@ fn tried(
     second
 }
 
-/// Applies a step as `step` of slice_quad does, and reclaims nodes to the vector or matrix: before the step where
-/// that is due after so many accepted gates, and where the store is full. Then the step is tried once more.
+/// Applies a step as `step` of slice_quad does, with upkeep before it. Where that is due after so many accepted gates, all variables are sifted for the
+/// vector or matrix, or nodes are reclaimed to it; a sift reclaims too. Where the store is full, nodes are reclaimed, and the step is tried once more.
 ///
-/// So `Full` comes only where the step's work functions alone need at least as many nodes as the limit. Where a
-/// reclaim was due, no other nodes are held afterwards than those of the work functions.
+/// So `Full` comes only where the step's work functions alone need at least as many nodes as the limit, in the order in force. Where a
+/// reclaim was due and no sift, no other nodes are held afterwards than those of the work functions. A due sift alone changes the order.
 pub fn upkept_step(
     alloc: Global,
     d: &mut Diagrams,
     q: &mut SliceQuad,
     s: &Step,
     width: u8,
-    every: u32,
+    schedule: Schedule,
     gates: u32,
 ) -> Result<(), QuadStop>
     requires stands { Stands d.old.store q.old }
@@ -89,16 +89,17 @@ pub fn upkept_step(
 
     // What a stop says.
     ensures width { IfErr result (OnWidth (¬ FitsWidth width (stepped s.now (vector_in d.old.store q.old.four)))) }
-    ensures full { IfErr result (NeedsNodes d.old.store (work_in d.old.store s.now q.old)) }
+    ensures full { IfErr result (NeedsNodes d.new.store (work_in d.old.store s.now q.old)) }
     ensures refused { OnErr result (q.new ≡ q.old) }
 
-    // What stays, and what is held.
+    // What stays, the order in force, and what is held.
     ensures kept { q.new.kept ≡ q.old.kept }
     ensures stands { Stands d.new.store q.new }
     ensures keeps { KeepsQuad d.old q.old d.new }
-    ensures holds { is_due every gates ≡ true → OnOk result (HoldsOnly d.new.store (IsWork d.old.store s.now q.old)) }
+    ensures order { Reorders schedule gates d.old.store q.old result d.new.store.order }
+    ensures holds { is_due schedule.reclaim gates ≡ true → is_due schedule.sift gates ≡ false → OnOk result (HoldsOnly d.new.store (IsWork d.old.store s.now q.old)) }
 {
-    reclaim_due(alloc, d, q, every, gates)?;
+    keep_up(alloc, d, q, schedule, gates)?;
     let answer = tried(alloc, d, q, s, width);
     answer
 }

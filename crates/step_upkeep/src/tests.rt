@@ -2,7 +2,7 @@
 ghost use Rattle.std.specs.Prelude.{All, ◌≡◌, ◌<◌, ◌-◌, ◌^◌, length};
 ghost use Rattle.slice_quad.specs.Vectors.{Stands};
 
-use crate::{is_due, reclaim_to, upkept_gate};
+use crate::{Schedule, is_due, reclaim_to, upkept_gate};
 use bit_lists::Bits;
 use diagram_ops::Diagrams;
 use gate_set::{Gate, Kind};
@@ -30,7 +30,7 @@ fn apply(
     d: &mut Diagrams,
     q: &mut SliceQuad,
     gate: &Gate,
-    every: u32,
+    schedule: Schedule,
 )
     requires stands { Stands d.old.store q.old }
     requires below { All (λ q. q < length d.old.store.order) gate.now.on }
@@ -38,19 +38,39 @@ fn apply(
     ensures order { length d.new.store.order ≡ length d.old.store.order }
 {
     assert!(rt; q.exponent < 100);
-    assert!(rt; upkept_gate(alloc, d, q, gate, 4, every, 1).is_ok());
+    assert!(rt; upkept_gate(alloc, d, q, gate, 4, schedule, 1).is_ok());
 }
 
 /// H on the first qubit, and then Cx from each to the next.
-fn same_bits(rt: &impl Abort, alloc: Global, d: &mut Diagrams, q: &mut SliceQuad, every: u32)
+fn same_bits(
+    rt: &impl Abort,
+    alloc: Global,
+    d: &mut Diagrams,
+    q: &mut SliceQuad,
+    schedule: Schedule,
+)
     requires stands { Stands d.old.store q.old }
     requires three { length d.old.store.order ≡ 3 }
     ensures stands { Stands d.new.store q.new }
     ensures three { length d.new.store.order ≡ 3 }
 {
-    apply(rt, alloc, d, q, &Gate::new(alloc, Kind::H, &[0]), every);
-    apply(rt, alloc, d, q, &Gate::new(alloc, Kind::Cx, &[0, 1]), every);
-    apply(rt, alloc, d, q, &Gate::new(alloc, Kind::Cx, &[1, 2]), every);
+    apply(rt, alloc, d, q, &Gate::new(alloc, Kind::H, &[0]), schedule);
+    apply(
+        rt,
+        alloc,
+        d,
+        q,
+        &Gate::new(alloc, Kind::Cx, &[0, 1]),
+        schedule,
+    );
+    apply(
+        rt,
+        alloc,
+        d,
+        q,
+        &Gate::new(alloc, Kind::Cx, &[1, 2]),
+        schedule,
+    );
 }
 
 /// Three bits, all the same.
@@ -76,7 +96,16 @@ fn five_nodes_for_three_equal_qubits(rt: HostRuntime) {
         let Ok(mut q) = start(alloc, &mut d, &all_of(false)) else {
             panic!(rt; "no room");
         };
-        same_bits(&rt, alloc, &mut d, &mut q, every);
+        same_bits(
+            &rt,
+            alloc,
+            &mut d,
+            &mut q,
+            Schedule {
+                reclaim: every,
+                sift: 0,
+            },
+        );
         let held = d.store().held();
         let Ok(freed) = reclaim_to(alloc, &mut d, &q) else {
             panic!(rt; "no memory");

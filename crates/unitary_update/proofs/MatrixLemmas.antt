@@ -73,13 +73,13 @@ one_half n t s is = let few = few_halves (gate_of t).kind in let half = sided_ha
 pub within_store : (m n : ℕ) (t : Step) (s : SlicedStep) → m ≡ 2 * n → IsSided n t s → IsStepOn m s
 within_store m n t s e is = subst (λ i. IsStepOn i s) (sym e) (sided_within n t s is)
 
-pub shows_next : (n : ℕ) (d e : Diagram) (q r : SliceQuad) (w : Scaled) (t : Step) (s : SlicedStep) → ShowsMatrix n d q w → IsSided n t s → IsSound e → e.order ≡ d.order → length d.order ≡ 2 * n
+pub shows_next : (n : ℕ) (d e : Diagram) (q r : SliceQuad) (w : Scaled) (t : Step) (s : SlicedStep) → ShowsMatrix n d q w → IsSided n t s → IsSound e → length e.order ≡ length d.order → length d.order ≡ 2 * n
     → IsSettled e (stepped s (vector_in d q.four)) (q.exponent + half_of s) r.four r.exponent → ShowsMatrix n e r (step_matrix n w t)
 shows_next n d e q r w t s shown is sound same size settled =
     let v = stepped s (vector_in d q.four) in
     let raised : q.exponent + half_of s ≡ w.exponent + half_power_of (gate_of t).kind = let over = shown.exponent in let half = sided_half n t s is in omega (arith, over, half) in
     matrix_shown n v (w.exponent + half_power_of (gate_of t).kind) (times_step t (by_position w.entries)) e r.four r.exponent
-    (λ x y ex ey. product_shown n d q w t s x y shown is ex ey) sound (ap (λ (l : List ℕ). length l) same ∙ size)
+    (λ x y ex ey. product_shown n d q w t s x y shown is ex ey) sound (same ∙ size)
     (subst (λ i. IsSettled e v i r.four r.exponent) raised settled)
 
 -- a step raises the exponent by one at most
@@ -126,7 +126,7 @@ kept_start n rules steps d q few are none sound order limit h = rw none begun
       few_qubits = few;
       few_steps = omega arith;
       sound = sound;
-      order = order;
+      variables = size_of_order d.store.order (2 * n) order;
       limit = limit;
       stands = h.stands;
       shows = start_shows n d.store q h;
@@ -137,10 +137,10 @@ kept_start n rules steps d q few are none sound order limit h = rw none begun
 
 -- ---- one step more
 pub kept_next : (s : State) (t : Step) (steps : List Step) (v : StoreAndCache) (r : SliceQuad) → IsKept s → length s.steps < 2000000 → steps ≡ s.steps ++ t ∷ []
-    → IsConsistent v → v.store.order ≡ s.diagrams.store.order → v.store.limit ≡ s.diagrams.store.limit → Stands v.store r
+    → IsConsistent v → length v.store.order ≡ length s.diagrams.store.order → v.store.limit ≡ s.diagrams.store.limit → Stands v.store r
     → ShowsMatrix s.qubits v.store r (step_matrix s.qubits (work_matrix s.qubits s.steps) t) → r.exponent ≤ s.quad.exponent + 1 → length r.four.a ≤ s.rules.width
     → KeepsRowEqualsColumn s.qubits v.store r → IsKept (state_with s.qubits s.rules steps v r)
-kept_next s t steps v r h few more sound order limit stands shows over narrow kept = rw more next
+kept_next s t steps v r h few more sound variables limit stands shows over narrow kept = rw more next
   where
     long : length (s.steps ++ t ∷ []) ≡ length s.steps + 1
     long = length-append {A = Step} s.steps (t ∷ [])
@@ -150,7 +150,7 @@ kept_next s t steps v r h few more sound order limit stands shows over narrow ke
       few_qubits = h.few_qubits;
       few_steps = omega (arith, long, few);
       sound = sound;
-      order = order ∙ h.order;
+      variables = variables ∙ h.variables;
       limit = limit ∙ h.limit;
       stands = stands;
       shows = subst (λ (u : Scaled). ShowsMatrix s.qubits v.store r u) (sym (work_matrix-last s.qubits s.steps t)) shows;
@@ -160,13 +160,13 @@ kept_next s t steps v r h few more sound order limit stands shows over narrow ke
     }
 
 -- after a stop
-pub kept_stop : (s : State) (v : StoreAndCache) → IsKept s → IsConsistent v → v.store.order ≡ s.diagrams.store.order → v.store.limit ≡ s.diagrams.store.limit → Stands v.store s.quad
+pub kept_stop : (s : State) (v : StoreAndCache) → IsKept s → IsConsistent v → length v.store.order ≡ length s.diagrams.store.order → v.store.limit ≡ s.diagrams.store.limit → Stands v.store s.quad
     → ShowsMatrix s.qubits v.store s.quad (work_matrix s.qubits s.steps) → KeepsRowEqualsColumn s.qubits v.store s.quad → IsKept (state_with s.qubits s.rules s.steps v s.quad)
-kept_stop s v h sound order limit stands shows kept = record {
+kept_stop s v h sound variables limit stands shows kept = record {
   few_qubits = h.few_qubits;
   few_steps = h.few_steps;
   sound = sound;
-  order = order ∙ h.order;
+  variables = variables ∙ h.variables;
   limit = limit ∙ h.limit;
   stands = stands;
   shows = shows;
@@ -190,7 +190,7 @@ entry_is s r c x h er ec e = ap (λ (l : List Bool). vector_in s.diagrams.store 
 
 pub woven_long : (s : State) (r c x : List Bool) → IsKept s → length r ≡ s.qubits → length c ≡ s.qubits → x ≡ woven r c → length x ≡ length s.diagrams.store.order
 woven_long s r c x h er ec e =
-    ap (λ (l : List Bool). length l) e ∙ length-woven r c (er ∙ sym ec) ∙ ap (λ i. 2 * i) er ∙ sym (size_of_order s.diagrams.store.order (2 * s.qubits) h.order)
+    ap (λ (l : List Bool). length l) e ∙ length-woven r c (er ∙ sym ec) ∙ ap (λ i. 2 * i) er ∙ sym h.variables
 
 -- ---- the width, in the words of the matrix
 pub fits_state : (s : State) (t : Step) (width : ℕ) → width ≡ s.rules.width → circuits.FitsWidth (s.qubits + s.qubits) width (raw_matrix s.qubits (work_matrix s.qubits s.steps) t).entries

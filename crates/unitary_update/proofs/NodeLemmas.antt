@@ -2,6 +2,7 @@
 use Rattle.std.proofs.Common.{◌≡◌, ℕ, zero, suc, ◌+◌, ◌*◌, ◌≤◌, List, ◌∷◌, length, sym, ◌∙◌, ap, subst, arith}
 use Rattle.std.proofs.Math.Path.{ap₂}
 use mathlib.Core.Path.{fun_ext}
+use Rattle.bit_lists.specs.Orders.{AreVars}
 use Rattle.circuit_model.specs.Working.{Scaled}
 use Rattle.comparison.specs.Products.{Step, by_position, work_matrix}
 use Rattle.diagram_model.specs.Functions.{Assignment, Function}
@@ -18,12 +19,13 @@ use Rattle.slice_quad.specs.Vectors.{vector_in}
 use Rattle.slice_gates.specs.Shown.{at_lists, first_values, ReadsBelow, IsMatrixShown}
 use Rattle.slice_gates.specs.Sides.{woven}
 use Rattle.slice_gates.proofs.Agreeing.{length-first_values, at_list, vector-reads}
+use Rattle.step_upkeep.specs.declared.upkeep.Schedule.{Schedule}
+use Rattle.step_upkeep.specs.Due.{IsInForce}
 use Rattle.step_upkeep.specs.Stored.{stored_functions}
-use Rattle.step_upkeep.specs.Upkept.{work_in}
-use Rattle.step_upkeep.proofs.Stored.{stored_held}
+use Rattle.step_upkeep.specs.Upkept.{functions_in, work_in}
+use Rattle.step_upkeep.proofs.Stored.{stored_held, in_force_stored}
 use Rattle.step_upkeep.proofs.Widths.{work_within}
-use Rattle.unitary_update.specs.Kept.{State, IsKept, standing_of, sliced_step, by_variables, work_of, InWork, stored_of, needed, IsStored}
-use Rattle.unitary_update.proofs.MatrixLemmas.{size_of_order}
+use Rattle.unitary_update.specs.Kept.{State, IsKept, standing_of, in_order, sliced_step, by_variables, work_of, InWork, stored_of, needed, IsStored, IsNextOrder}
 
 -- ---- the matrix over the variables
 pub values_same : (n : ℕ) (x y : Assignment) → ((i : ℕ) → x i ≡ y i) → first_values n x ≡ first_values n y
@@ -69,41 +71,53 @@ module _ (s : State) (h : IsKept s) where
   list_is t =
       let w = length s.quad.four.a in
       let u = sliced_step s.qubits t in
-      let matrix = shown_matrix s.qubits d s.quad.four s.quad.exponent (work_matrix s.qubits s.steps) h.sound.store (size_of_order d.order (2 * s.qubits) h.order) h.shows in
+      let matrix = shown_matrix s.qubits d s.quad.four s.quad.exponent (work_matrix s.qubits s.steps) h.sound.store h.variables h.shows in
       ap (λ (f : Function). work_functions w f u (vector_in d s.quad.four)) h.kept ∙ ap (λ (v : Vector). work_functions w (row_equals_column s.qubits) u v) (sym matrix)
 
-  -- and the width of the rules takes none away
-  work_wider : (t : Step) (p : Function) → IsPrefixOfSome d.order (work_in d (sliced_step s.qubits t) s.quad) p → IsPrefixOfSome d.order (work_of (standing_of s) t) p
+  -- and the width of the rules takes none away, whatever order is in force
+  work_wider : (order : List ℕ) (t : Step) (p : Function) → IsPrefixOfSome order (work_in d (sliced_step s.qubits t) s.quad) p → IsPrefixOfSome order (work_of (standing_of s) t) p
   unfolding work_of
-  work_wider t p x =
-      work_within d.order p (length s.quad.four.a) s.rules.width h.narrow (row_equals_column s.qubits) (sliced_step s.qubits t) (by_variables s.qubits (by_position (work_matrix s.qubits s.steps).entries))
-      (subst (λ (fs : List Function). IsPrefixOfSome d.order fs p) (list_is t) x)
+  work_wider order t p x =
+      work_within order p (length s.quad.four.a) s.rules.width h.narrow (row_equals_column s.qubits) (sliced_step s.qubits t) (by_variables s.qubits (by_position (work_matrix s.qubits s.steps).entries))
+      (subst (λ (fs : List Function). IsPrefixOfSome order fs p) (list_is t) x)
 
   -- what holds only those of the integers holds only those of the step
   pub holds_work : (t : Step) (e : Diagram) → HoldsOnly e (IsWork d (sliced_step s.qubits t) s.quad) → HoldsOnly e (InWork (standing_of s) t)
-  holds_work t e all n p at = work_wider t (function_of e n) (all n p at)
+  holds_work t e all n p at = work_wider d.order t (function_of e n) (all n p at)
 
-  -- where those of the integers need as many nodes as the limit, those of the step do
-  pub step_needs : (t : Step) → d.limit ≤ size (length d.order) d.order (work_in d (sliced_step s.qubits t) s.quad) → s.rules.nodes ≤ needed (standing_of s) (work_of (standing_of s) t)
-  step_needs t most =
-      let k = length d.order in
+  -- where those of the integers need as many nodes as the limit in an order, those of the step do
+  pub step_needs : (t : Step) (order : List ℕ) → AreVars (length order) order → d.limit ≤ size (length order) order (work_in d (sliced_step s.qubits t) s.quad)
+      → s.rules.nodes ≤ needed (in_order (standing_of s) order) (work_of (standing_of s) t)
+  step_needs t order vars most =
+      let k = length order in
       let fs = work_in d (sliced_step s.qubits t) s.quad in
-      let le : size k d.order fs ≤ size k d.order (work_of (standing_of s) t) =
-      size-le k k d.order (work_of (standing_of s) t) fs h.sound.store.diagram.order (λ f is. work_wider t f (one_some d.order fs f is)) in
+      let le : size k order fs ≤ size k order (work_of (standing_of s) t) = size-le k k order (work_of (standing_of s) t) fs vars (λ f is. work_wider order t f (one_some order fs f is)) in
       let limit = h.limit in
       omega (arith, most, le, limit)
 
-  -- the matrix is stored by as many nodes as the rules allow at most
-  pub stored_few : IsStored (standing_of s)
+  -- the functions that the matrix is stored by are those of the integers, at the width of the rules
+  stored_is : stored_of (standing_of s) ≡ stored_functions s.rules.width (function_of d s.quad.kept.0) (vector_in d s.quad.four)
   unfolding stored_of
-  stored_few =
+  stored_is =
       let W = s.rules.width in
       let v : Vector = by_variables s.qubits (by_position (work_matrix s.qubits s.steps).entries) in
-      let matrix = shown_matrix s.qubits d s.quad.four s.quad.exponent (work_matrix s.qubits s.steps) h.sound.store (size_of_order d.order (2 * s.qubits) h.order) h.shows in
-      let same : stored_functions W (row_equals_column s.qubits) v ≡ stored_functions W (function_of d s.quad.kept.0) (vector_in d s.quad.four) =
-      ap (λ (f : Function). stored_functions W f v) (sym h.kept) ∙ ap (λ (u : Vector). stored_functions W (function_of d s.quad.kept.0) u) matrix in
-      let counts : size (length d.order) d.order (stored_functions W (row_equals_column s.qubits) v) ≡ size (length d.order) d.order (stored_functions W (function_of d s.quad.kept.0) (vector_in d s.quad.four)) =
-      ap (λ (fs : List Function). size (length d.order) d.order fs) same in
-      let le = stored_held d s.quad h.stands W h.sound.store in
+      let matrix = shown_matrix s.qubits d s.quad.four s.quad.exponent (work_matrix s.qubits s.steps) h.sound.store h.variables h.shows in
+      ap (λ (f : Function). stored_functions W f v) (sym h.kept) ∙ ap (λ (u : Vector). stored_functions W (function_of d s.quad.kept.0) u) matrix
+
+  -- they are stored by as many nodes as the rules allow at most
+  pub stored_few : IsStored (standing_of s)
+  stored_few =
+      let counts = ap (λ (fs : List Function). size (length d.order) d.order fs) stored_is in
+      let le = stored_held d s.quad h.stands s.rules.width h.sound.store in
       let few = h.sound.store.few in let limit = h.limit in
       omega (arith, counts, le, few, limit)
+
+  -- the order that is in force for the integers is the one for the matrix
+  pub next_order : (t : Schedule) (done : ℕ) (order : List ℕ) → t.sift ≡ s.rules.sift → done ≡ length s.steps → IsInForce t.sift done (functions_in d s.quad) d.limit d.order order
+      → IsNextOrder (standing_of s) order
+  next_order t done order sift count force =
+      let W = s.rules.width in
+      let here = subst (λ i. IsInForce i (length s.steps) (functions_in d s.quad) d.limit d.order order) sift (subst (λ k. IsInForce t.sift k (functions_in d s.quad) d.limit d.order order) count force) in
+      let stored = in_force_stored d s.quad h.stands s.rules.sift (length s.steps) d.limit W d.order order h.narrow here in
+      subst (λ (fs : List Function). IsInForce s.rules.sift (length s.steps) fs s.rules.nodes d.order order) (sym stored_is)
+      (subst (λ k. IsInForce s.rules.sift (length s.steps) (stored_functions W (function_of d s.quad.kept.0) (vector_in d s.quad.four)) k d.order order) h.limit stored)

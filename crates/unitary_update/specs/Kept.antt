@@ -1,5 +1,5 @@
 -- What contracts see of a matrix that is kept as integers over decision diagrams, how it goes on, step by step, and how they keep it.
-use Rattle.std.specs.Prelude.{◌≡◌, ◌≤◌, ◌<◌, ℕ, ◌+◌, ◌*◌, List, [], ◌∷◌, ◌++◌, length}
+use Rattle.std.specs.Prelude.{◌≡◌, ◌≤◌, ◌<◌, ℕ, ◌+◌, ◌*◌, List, [], ◌∷◌, ◌++◌, length, Result, Ok, Err}
 use Rattle.std.specs.List.{range_with_len}
 use Rattle.circuit_model.specs.Working.{Scaled}
 use Rattle.comparison.specs.Scalars.{Matrix}
@@ -23,6 +23,8 @@ use Rattle.slice_gates.specs.declared.side.Side.TheVariants.{Rows, Columns}
 use Rattle.slice_gates.specs.Shown.{first_values, IsMatrixShown}
 use Rattle.slice_gates.specs.Sides.{place_on}
 use Rattle.slice_gates.specs.Stepped.{step_for}
+use Rattle.phases.specs.Phases.{Phase, ◌>>◌, StopsWhere, Through}
+use Rattle.step_upkeep.specs.Due.{IsInForce, IsLeft}
 use Rattle.step_upkeep.specs.Stored.{stored_functions}
 use Rattle.unitary_update.specs.declared.accepted.MatrixStep.{MatrixStep}
 use Rattle.unitary_update.specs.declared.accepted.MatrixStep.TheVariants.{Left, Right}
@@ -51,6 +53,9 @@ pub record Standing : Type 0 where
 -- no step was accepted yet, and the order is the natural one
 abbrev pub begun : ℕ → Settings → Standing
 begun n rules = record { qubits = n; rules = rules; steps = []; order = range_with_len 0 (2 * n) }
+
+abbrev pub in_order : Standing → List ℕ → Standing
+in_order s order = record { qubits = s.qubits; rules = s.rules; steps = s.steps; order = order }
 
 abbrev pub with_step : Standing → Step → Standing
 with_step s t = record { qubits = s.qubits; rules = s.rules; steps = s.steps ++ t ∷ []; order = s.order }
@@ -83,25 +88,44 @@ needed s fs = size (length s.order) s.order fs
 abbrev pub IsStored : Standing → Type 0
 IsStored s = needed s (stored_of s) ≤ s.rules.nodes
 
+-- the order in force at the next step: where a sift is due, the one that sifting all variables leads to, for the functions that the matrix is stored by
+abbrev pub IsNextOrder : Standing → List ℕ → Type 0
+IsNextOrder s order = IsInForce s.rules.sift (length s.steps) (stored_of s) s.rules.nodes s.order order
+
+-- the order after the answer to a step; after want of memory it may be any order of the variables where a sift was due
+abbrev pub Reorders : Standing → Result (Unit {0}) Stop → List ℕ → Type 0
+Reorders s (Err OutOfMemory) order = IsLeft s.rules.sift (length s.steps) s.order order
+Reorders s _ order = IsNextOrder s order
+
 -- the step is accepted, and then the matrix stands by r
 pub record Accepts (s : Standing) (t : Step) (r : Standing) : Type 0 where
   pub fits : RawStepFits s.rules.width s.qubits s.steps t
-  pub stored : IsStored (with_step s t)
-  pub same : r ≡ with_step s t
+  pub order : IsNextOrder s r.order
+  pub stored : IsStored (with_step (in_order s r.order) t)
+  pub same : r ≡ with_step (in_order s r.order) t
 
--- ---- stops
--- what a refusal of a step says: its number, counted from 1, and that its product doesn't fit, or that its work functions alone need at
--- least as many nodes as the rules allow, in the order in force
-abbrev pub StopMeans : Standing → Step → Stop → Type 0
-StopMeans s t (Width number) = (number ≡ length s.steps + 1) × ¬ RawStepFits s.rules.width s.qubits s.steps t
-StopMeans s t (Nodes number order full) = (number ≡ length s.steps + 1) × (order ≡ s.order) × (full ≡ s.rules.nodes) × (s.rules.nodes ≤ needed s (work_of s t))
-StopMeans s t OutOfMemory = Unit {0}
+-- there are too few nodes for the step: its work functions alone need at least as many as the rules allow, in the order in force
+pub record LacksNodes (s : Standing) (t : Step) (order : List ℕ) (full : ℕ) : Type 0 where
+  pub order_is : IsNextOrder s order
+  pub needs : s.rules.nodes ≤ needed (in_order s order) (work_of s t)
+  pub full_is : full ≡ s.rules.nodes
 
--- what a refusal of the identity on n qubits says: three nodes a qubit are more than the rules allow
-abbrev pub StartStopMeans : ℕ → Settings → Stop → Type 0
-StartStopMeans n rules (Width number) = ⊥
-StartStopMeans n rules (Nodes number order full) = (number ≡ 0) × (order ≡ range_with_len 0 (2 * n)) × (full ≡ rules.nodes) × (rules.nodes < 3 * n)
-StartStopMeans n rules OutOfMemory = Unit {0}
+-- a step comes; a stop has its number, counted from 1
+abbrev pub Applies : Standing → Step → Phase Standing Stop
+Applies s t (Ok r) = Accepts s t r
+Applies s t (Err (Width number)) = (number ≡ length s.steps + 1) × ¬ RawStepFits s.rules.width s.qubits s.steps t
+Applies s t (Err (Nodes number order full)) = (number ≡ length s.steps + 1) × LacksNodes s t order full
+Applies s t (Err OutOfMemory) = ⊥
+
+-- the identity takes three nodes a qubit, and stops exactly where these are more than the rules allow
+abbrev pub Starts : Settings → ℕ → Phase (Unit {0}) Stop
+Starts rules n = StopsWhere (rules.nodes < 3 * n) (Nodes 0 (range_with_len 0 (2 * n)) rules.nodes)
+
+-- the identity is multiplied by one step after the other
+abbrev pub Multiplies : Settings → ℕ → List Step → Phase Standing Stop
+Multiplies rules n steps = do
+  Starts rules n
+  Through Applies (begun n rules) steps
 
 -- ---- a kept matrix
 -- the number of qubits, the rules, the steps accepted so far, and the diagrams with the integers
@@ -121,7 +145,7 @@ pub record IsKept (m : State) : Type 0 where
   pub few_qubits : m.qubits ≤ 64
   pub few_steps : length m.steps ≤ 2000000
   pub sound : IsConsistent m.diagrams
-  pub order : m.diagrams.store.order ≡ range_with_len 0 (2 * m.qubits)
+  pub variables : length m.diagrams.store.order ≡ 2 * m.qubits
   pub limit : m.diagrams.store.limit ≡ m.rules.nodes
   pub stands : Stands m.diagrams.store m.quad
   pub shows : ShowsMatrix m.qubits m.diagrams.store m.quad (work_matrix m.qubits m.steps)

@@ -1,5 +1,5 @@
 //! A matrix as integers over decision diagrams.
-ghost use Rattle.std.specs.Prelude.{◌≡◌, ◌*◌, ◌<◌, ◌≤◌, ◌++◌, true, length, IfOk, IfErr, OnOk, OnErr};
+ghost use Rattle.std.specs.Prelude.{◌≡◌, ◌*◌, ◌<◌, ◌≤◌, ◌++◌, true, false, length, IfOk, IfErr, OnOk, OnErr};
 
 use crate::accepted::MatrixStep;
 use crate::multiplying::multiply;
@@ -13,13 +13,14 @@ use ring_omega::Quad;
 use slice_quad::{QuadStop, SliceQuad, entry, exponent, identity};
 use std::alloc::Global;
 use std::marker::Model;
+use step_upkeep::Schedule;
 
 /// A matrix on at most 64 qubits, as integers over decision diagrams: of qubit q, variable 2q is the row's and
 /// variable 2q + 1 the column's.
 ///
 /// A step takes the time of its connectives: what it costs depends on how many functions the bits of the matrix
 /// share, not on the number of entries. Nodes that are no longer wanted are freed where the rules say so, and where a
-/// step wants their place.
+/// step wants their place; where the rules say so, the variables are sifted.
 #[derive(Drop)]
 pub struct SlicedMatrix {
     qubits: u8,
@@ -40,22 +41,27 @@ impl Model for SlicedMatrix {
     ghost invariant = { λ m. IsKept (record { qubits = m.qubits; rules = m.rules; steps = map step_in m.steps.items; diagrams = m.diagrams; quad = m.quad }) };
 }
 
-/// After how many steps nodes are reclaimed, where 0 is never.
-fn steps_between(rules: &Rules) -> u32
-    ensures { result ≡ rules.now.reclaim }
+/// When the rules want upkeep.
+fn schedule_of(rules: &Rules) -> Schedule
+    ensures reclaim { result.reclaim ≡ rules.now.reclaim }
+    ensures sift { result.sift ≡ rules.now.sift }
 {
-    rules.reclaim
+    Schedule {
+        reclaim: rules.reclaim,
+        sift: rules.sift,
+    }
 }
 
 impl SlicedMatrix {
     ghost use Rattle.gate_set.specs.Shape.{IsOn};
+    ghost use Rattle.amp_dense.specs.Standing.{MayStop, NamesOrder};
     ghost use Rattle.slice_quad.specs.RowsColumns.{KeepsRowEqualsColumn};
     ghost use Rattle.slice_quad.specs.Vectors.{Stands};
     ghost use Rattle.comparison.specs.Products.{gate_of, work_matrix};
     ghost use Rattle.comparison.specs.Products.Step.{left, right};
     ghost use Rattle.node_reclaim.specs.Reclaims.{HoldsOnly};
     ghost use Rattle.step_upkeep.specs.Due.{is_due};
-    ghost use Rattle.unitary_update.specs.Kept.{standing_of, step_in, begun, Accepts, InWork, StopMeans, StartStopMeans, ShowsMatrix};
+    ghost use Rattle.unitary_update.specs.Kept.{standing_of, step_in, begun, in_order, Accepts, Applies, Reorders, InWork, Starts, ShowsMatrix};
 
     /// The identity, with no step accepted yet.
     ///
@@ -64,7 +70,7 @@ impl SlicedMatrix {
         requires { qubits ≤ 64 }
         ensures begins { IfOk result (λ m. standing_of m ≡ begun qubits rules.now) }
         ensures room { OnOk result (3 * qubits ≤ rules.now.nodes) }
-        ensures stops { IfErr result (StartStopMeans qubits rules.now) }
+        ensures stops { IfErr result (MayStop (Starts rules.now qubits)) }
     {
         let _width = rules.width();
         let mut diagrams = Diagrams::new(alloc, 2 * qubits, rules.nodes, rules.cache)?;
@@ -85,18 +91,21 @@ impl SlicedMatrix {
         }
     }
 
-    /// Multiplies by the gate's matrix from the left: the matrix M becomes G·M, halved.
+    /// Multiplies by the gate's matrix from the left: the matrix M becomes G·M, halved. Where a sift is due, all variables are sifted in turn
+    /// first, and the order that this leads to is in force from then on; where memory is wanted at that, any order may be.
     ///
-    /// `Width` comes only where a coefficient of the product is wider than the rules let it be, and `Nodes` only where
+    /// `Width` comes only where a coefficient of the product is wider than the rules let it be, and `Nodes` only where, in the order in force,
     /// the step's work functions alone need at least as many nodes as the rules let it have. A stop numbers this step among the left and right ones
-    /// together, from 1, and leaves the matrix as it was.
+    /// together, from 1, and leaves the matrix as it was, but for the order.
     pub fn left(&mut self, alloc: Global, gate: &Gate) -> Result<(), Stop>
         requires within { IsOn self.old.qubits gate.now }
         requires few { length self.old.steps < 2000000 }
         ensures accepts { OnOk result (Accepts (standing_of self.old) (left gate.now) (standing_of self.new)) }
-        ensures stops { IfErr result (StopMeans (standing_of self.old) (left gate.now)) }
-        ensures refused { OnErr result (standing_of self.new ≡ standing_of self.old) }
-        ensures after_reclaim { is_due (standing_of self.old).rules.reclaim (length (standing_of self.old).steps) ≡ true → OnOk result (HoldsOnly self.new.diagrams.store (InWork (standing_of self.old) (left gate.now))) }
+        ensures stops { IfErr result (MayStop (Applies (standing_of self.old) (left gate.now))) }
+        ensures in_force { IfErr result (NamesOrder (standing_of self.new).order) }
+        ensures refused { OnErr result (standing_of self.new ≡ in_order (standing_of self.old) (standing_of self.new).order) }
+        ensures order { Reorders (standing_of self.old) result (standing_of self.new).order }
+        ensures after_reclaim { is_due (standing_of self.old).rules.reclaim (length (standing_of self.old).steps) ≡ true → is_due (standing_of self.old).rules.sift (length (standing_of self.old).steps) ≡ false → OnOk result (HoldsOnly self.new.diagrams.store (InWork (standing_of self.old) (left gate.now))) }
     {
         let factor = Gate::new(alloc, gate.kind(), gate.on());
         self.accept(alloc, MatrixStep::Left(factor))
@@ -107,9 +116,11 @@ impl SlicedMatrix {
         requires within { IsOn self.old.qubits gate.now }
         requires few { length self.old.steps < 2000000 }
         ensures accepts { OnOk result (Accepts (standing_of self.old) (right gate.now) (standing_of self.new)) }
-        ensures stops { IfErr result (StopMeans (standing_of self.old) (right gate.now)) }
-        ensures refused { OnErr result (standing_of self.new ≡ standing_of self.old) }
-        ensures after_reclaim { is_due (standing_of self.old).rules.reclaim (length (standing_of self.old).steps) ≡ true → OnOk result (HoldsOnly self.new.diagrams.store (InWork (standing_of self.old) (right gate.now))) }
+        ensures stops { IfErr result (MayStop (Applies (standing_of self.old) (right gate.now))) }
+        ensures in_force { IfErr result (NamesOrder (standing_of self.new).order) }
+        ensures refused { OnErr result (standing_of self.new ≡ in_order (standing_of self.old) (standing_of self.new).order) }
+        ensures order { Reorders (standing_of self.old) result (standing_of self.new).order }
+        ensures after_reclaim { is_due (standing_of self.old).rules.reclaim (length (standing_of self.old).steps) ≡ true → is_due (standing_of self.old).rules.sift (length (standing_of self.old).steps) ≡ false → OnOk result (HoldsOnly self.new.diagrams.store (InWork (standing_of self.old) (right gate.now))) }
     {
         let factor = Gate::new(alloc, gate.kind(), gate.on());
         self.accept(alloc, MatrixStep::Right(factor))
@@ -120,14 +131,16 @@ impl SlicedMatrix {
         requires within { IsOn self.old.qubits (gate_of (step_in factor)) }
         requires few { length self.old.steps < 2000000 }
         ensures accepts { OnOk result (Accepts (standing_of self.old) (step_in factor) (standing_of self.new)) }
-        ensures stops { IfErr result (StopMeans (standing_of self.old) (step_in factor)) }
-        ensures refused { OnErr result (standing_of self.new ≡ standing_of self.old) }
-        ensures after_reclaim { is_due (standing_of self.old).rules.reclaim (length (standing_of self.old).steps) ≡ true → OnOk result (HoldsOnly self.new.diagrams.store (InWork (standing_of self.old) (step_in factor))) }
+        ensures stops { IfErr result (MayStop (Applies (standing_of self.old) (step_in factor))) }
+        ensures in_force { IfErr result (NamesOrder (standing_of self.new).order) }
+        ensures refused { OnErr result (standing_of self.new ≡ in_order (standing_of self.old) (standing_of self.new).order) }
+        ensures order { Reorders (standing_of self.old) result (standing_of self.new).order }
+        ensures after_reclaim { is_due (standing_of self.old).rules.reclaim (length (standing_of self.old).steps) ≡ true → is_due (standing_of self.old).rules.sift (length (standing_of self.old).steps) ≡ false → OnOk result (HoldsOnly self.new.diagrams.store (InWork (standing_of self.old) (step_in factor))) }
     {
         let accepted = self.accepted();
         self.steps.reserve(1)?;
         let width = self.rules.width();
-        let every = steps_between(&self.rules);
+        let schedule = schedule_of(&self.rules);
         match multiply(
             alloc,
             &mut self.diagrams,
@@ -135,7 +148,7 @@ impl SlicedMatrix {
             &factor,
             self.qubits,
             width,
-            every,
+            schedule,
             accepted,
         ) {
             Ok(()) => {
@@ -180,7 +193,7 @@ impl SlicedMatrix {
         self.steps.len() as u32
     }
 
-    /// The order of the variables, which is the natural one.
+    /// The order of the variables in force.
     pub fn order(&self) -> Order
         ensures { result ≡ self.now.diagrams.store.order }
     {

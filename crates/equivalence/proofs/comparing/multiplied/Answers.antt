@@ -1,16 +1,16 @@
-use Rattle.std.proofs.Common.{rules, Err, ◌≡◌, ◌+◌, ◌<◌, ℕ, List, length, take, drop, ap, sym, refl, ◌∙◌, subst, arith}
+use Rattle.std.proofs.Common.{rules, Ok, Err, ◌≡◌, ◌+◌, ℕ, List, length, take, drop, ap, sym, refl, ◌∙◌, subst, arith}
 use Rattle.std.proofs.Math.Path.{ap₂}
 use Rattle.std.proofs.Math.Seq.{take-length}
 use Rattle.gate_set.specs.declared.gate.Gate.{Gate}
 use Rattle.gate_set.specs.Shape.{IsOn}
 use Rattle.amp_dense.specs.declared.stop.Stop.{Stop}
-use Rattle.comparison.specs.Products.{Step, AllStepsFit}
+use Rattle.comparison.specs.Products.{Step}
 use Rattle.comparison.specs.Sides.{step_of, lefts, rights}
 use Rattle.comparison.specs.Steps.{mixed, steps_of}
 use Rattle.comparison.proofs.TurnLemmas.{take-next, one_side, length-steps_of}
-use Rattle.unitary_update.specs.Kept.{standing_of}
-use Rattle.equivalence.specs.Stops.{AllStepsStored}
-use Rattle.equivalence.proofs.Stepping.{begins, one_after, stops_after, few_steps}
+use Rattle.unitary_update.specs.Kept.{standing_of, Multiplies}
+use Rattle.unitary_update.proofs.Chains.{multiplied}
+use Rattle.equivalence.proofs.Stepping.{begins, starts, one_after, stops_after, few_steps}
 use Rattle.equivalence.proofs.comparing.multiplied.Goals as goal
 
 pub steps-init : goal.steps-init
@@ -24,7 +24,8 @@ steps-init c = record {
 
 pub multiply-requires-clause-within : goal.multiply-requires-clause-within
 multiply-requires-clause-within c =
-    subst (λ n. IsOn n c.next_turn-turn.result.gate) (sym c.steps.invariant.after.qubits) (c.next_turn-turn.ensures.on c.args.qubits c.requires.on_us c.requires.on_vs)
+    let goes = multiplied c.args.rules.now c.args.qubits (take c.steps._step (steps_of c.args.us.now c.args.vs.now)) (standing_of c.steps.matrix) c.steps.invariant.after in
+    subst (λ n. IsOn n c.next_turn-turn.result.gate) (sym goes.qubits) (c.next_turn-turn.ensures.on c.args.qubits c.requires.on_us c.requires.on_vs)
 
 pub multiply-requires-clause-few : goal.multiply-requires-clause-few
 multiply-requires-clause-few c =
@@ -57,24 +58,20 @@ whole : (us vs : List Gate) (t : ℕ) → t ≡ length us + length vs → take t
 whole us vs t e = ap (λ k. take k (steps_of us vs)) (e ∙ sym (length-steps_of us vs)) ∙ take-length (steps_of us vs)
 
 pub returns-clause-qubits : goal.returns-clause-qubits
-returns-clause-qubits c = c.steps.invariant.after.qubits
+returns-clause-qubits c =
+    (multiplied c.args.rules.now c.args.qubits (take c.steps._step (steps_of c.args.us.now c.args.vs.now)) (standing_of c.steps.matrix) c.steps.invariant.after).qubits
 
-pub returns-clause-steps : goal.returns-clause-steps
-returns-clause-steps c =
+pub returns-clause-comes : goal.returns-clause-comes
+returns-clause-comes c =
     let e : c.steps._step ≡ length c.args.us.now + length c.args.vs.now = search rules in
-    c.steps.invariant.after.done ∙ whole c.args.us.now c.args.vs.now c.steps._step e
+    let P : List Step → Type 0 = λ l. Multiplies c.args.rules.now c.args.qubits l (Ok (standing_of c.steps.matrix)) in
+    subst P (whole c.args.us.now c.args.vs.now c.steps._step e) c.steps.invariant.after
 
-pub returns-clause-fits : goal.returns-clause-fits
-returns-clause-fits c =
-    let e : c.steps._step ≡ length c.args.us.now + length c.args.vs.now = search rules in
-    let P : List Step → Type 0 = λ l. AllStepsFit c.args.rules.now.width c.args.qubits l in
-    subst P (whole c.args.us.now c.args.vs.now c.steps._step e) c.steps.invariant.after.fits
-
-pub returns-clause-stored : goal.returns-clause-stored
-returns-clause-stored c =
-    let e : c.steps._step ≡ length c.args.us.now + length c.args.vs.now = search rules in
-    let P : List Step → Type 0 = λ l. AllStepsStored c.args.rules.now c.args.qubits l in
-    subst P (whole c.args.us.now c.args.vs.now c.steps._step e) c.steps.invariant.after.stored
+pub returns-in_err-matrix-clause-stop : goal.returns-in_err-matrix-clause-stop
+returns-in_err-matrix-clause-stop c =
+    let stop : Stop = c.in_err-matrix.field-0.0 in
+    let told : c.from_residual.result ≡ Err stop = search rules in
+    rw told (starts c.args.qubits c.args.rules.now (steps_of c.args.us.now c.args.vs.now) stop c.in_err-matrix.ensures.stops)
 
 pub returns-in_err-multiply-clause-stop : goal.returns-in_err-multiply-clause-stop
 returns-in_err-multiply-clause-stop c =
@@ -83,8 +80,6 @@ returns-in_err-multiply-clause-stop c =
     let v = c.steps.invariant in
     let stop : Stop = c.in_err-multiply.field-0.0 in
     let told : c.from_residual-in_err-multiply.result ≡ Err stop = search rules in
-    let long = length-steps_of us vs in
-    let less : c.steps._step < length (steps_of us vs) = omega (arith, long, c.steps-test.true) in
     rw told
     (stops_after c.args.qubits c.args.rules.now (steps_of us vs) c.steps._step (step_of c.next_turn-turn.result.side c.next_turn-turn.result.gate) _ (v.rest ∙ c.next_turn-turn.ensures.step)
-    (standing_of c.steps.matrix) v.after stop less c.in_err-multiply.ensures.stops)
+    (standing_of c.steps.matrix) v.after stop c.in_err-multiply.ensures.stops)

@@ -1,7 +1,6 @@
-use Rattle.std.proofs.Common.{◌≡◌, ◌≤◌, ◌+◌, length, drop}
+use Rattle.std.proofs.Common.{◌≡◌, ◌≤◌, ◌+◌, length, take, drop, Ok}
 use Rattle.comparison.specs.Steps.{mixed, steps_of}
-use Rattle.unitary_update.specs.Kept.{standing_of}
-use Rattle.equivalence.proofs.Stepping.{IsAfter}
+use Rattle.unitary_update.specs.Kept.{standing_of, Multiplies}
 use Rattle.equivalence.proofs.comparing.multiplied.Given as goal
 
 -- the matrix after the steps so far, and the steps that are left
@@ -11,5 +10,5 @@ invariant-steps l = record {
   i_in : l.i ≤ length l.us;
   j_in : l.j ≤ length l.vs;
   rest : drop l._step (steps_of l.us l.vs) ≡ mixed (length l.us) (length l.vs) l.i l.j (drop l.i l.us) (drop l.j l.vs);
-  after : IsAfter l.qubits l.rules (steps_of l.us l.vs) l._step (standing_of l.matrix);
+  after : Multiplies l.rules l.qubits (take l._step (steps_of l.us l.vs)) (Ok (standing_of l.matrix));
 }

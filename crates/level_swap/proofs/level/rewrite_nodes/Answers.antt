@@ -1,7 +1,7 @@
 use Rattle.std.proofs.Common.{◌≡◌, ◌+◌, ◌++◌, [], ◌∷◌, take, get_or, arith, ◌∙◌, refl}
 use Rattle.std.proofs.lemmas.List.{take_more, take_all}
 use Rattle.level_swap.specs.Rewriting.{AreDone}
-use Rattle.level_swap.proofs.Levels.{underway, done_none, done_on, done_cross, level_done, partly_same}
+use Rattle.level_swap.proofs.Levels.{underway, done_none, done_on, done_cross, level_done, partly_same, used_none}
 use Rattle.level_swap.proofs.level.rewrite_nodes.Goals as goal
 use Rattle.level_swap.proofs.level.rewrite_nodes.Goals.{in-Some, in-None}
 
@@ -17,6 +17,7 @@ loop-number-init c =
       made = refl;
       partly = λ k post top. partly_same s k c.args.upper c.args.lower post;
       done = done_none s s c.args.upper c.args.lower;
+      used = used_none s c.args.upper;
       held = omega arith;
       spare_upper = omega (arith, c.requires.spare_upper);
       spare_lower = omega (arith, c.requires.spare_lower);
@@ -42,6 +43,7 @@ loop-number-preserved c =
             made = w.cross.ensures.made ∙ i.made;
             partly = λ b post top. w.cross.ensures.underway s b post top (i.partly b post top);
             done = (let d : AreDone s w.cross.new.slots.diagram.slots u v (take k ns ++ n ∷ []) = done_cross s t w.cross.new.slots.diagram.slots u v (take k ns) n c.requires.pair i.partly w.cross.ensures.moved w.cross.ensures.stays i.done in rw more d);
+            used = w.cross.ensures.used s c.requires.pair.bound c.requires.pair.post c.requires.pair.top (i.partly c.requires.pair.bound c.requires.pair.post c.requires.pair.top) i.used;
             held = omega (arith, i.held, w.cross.ensures.held);
             spare_upper = omega (arith, i.spare_upper, w.cross.ensures.spares u);
             spare_lower = omega (arith, i.spare_lower, w.cross.ensures.spares v);
@@ -54,6 +56,7 @@ loop-number-preserved c =
             made = i.made;
             partly = i.partly;
             done = (let d : AreDone s t u v (take k ns ++ n ∷ []) = done_on s t u v (take k ns) n c.requires.pair i.partly w.in-None.ensures.none i.done in rw more d);
+            used = i.used;
             held = omega (arith, i.held);
             spare_upper = omega (arith, i.spare_upper);
             spare_lower = omega (arith, i.spare_lower);
@@ -68,4 +71,4 @@ returns-clause-rewritten c =
     let ns = c.args.numbers.now in
     let all : take c.loop-number.number-index ns ≡ ns = take_all c.loop-number.number-index ns c.loop-number-test.false in
     let done : AreDone d.slots c.loop-number.slots.diagram.slots c.args.upper c.args.lower ns = rw all at i.done in
-    level_done d c.loop-number.slots.diagram.slots c.args.upper c.args.lower ns i.partly c.requires.crossing done
+    level_done d c.loop-number.slots.diagram.slots c.args.upper c.args.lower ns i.partly c.requires.crossing done i.used

@@ -4,13 +4,13 @@ use Rattle.gate_set.specs.Circuits.{Circuit}
 use Rattle.amp_dense.specs.Standing.{Standing, begun}
 use Rattle.amp_dense.proofs.Walking.{walked}
 use Rattle.state_update.specs.Kept.{standing_of, sliced_policy}
-use Rattle.sliq_engine.specs.declared.output.SendStop.{SendStop}
-use Rattle.sliq_engine.specs.declared.cause.Cause.{Cause}
+use Rattle.outputs.specs.declared.output.SendStop.{SendStop}
+use Rattle.causes.specs.declared.cause.Cause.{Cause}
 use Rattle.sliq_engine.specs.Steps.{zeros, Simulates}
 use Rattle.sliq_engine.specs.Ending.{MayEnd, MayStopBy}
 use Rattle.sliq_engine.specs.Demo.{Demonstrates}
-use Rattle.sliq_engine.specs.Private.{cause_of_sending}
-use Rattle.sliq_engine.proofs.DemoLemmas.{demo_starved, demo_halts, demo_stops, demo_ends}
+use Rattle.causes.specs.Stops.{cause_of_sending}
+use Rattle.sliq_engine.proofs.DemoExits.{demo_starved, demo_halts, demo_stops, demo_ends}
 use Rattle.sliq_engine.proofs.demo.demo.Goals as goal
 
 pub returns-in_err-circuit-clause-stop : goal.returns-in_err-circuit-clause-stop

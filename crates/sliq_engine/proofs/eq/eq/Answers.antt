@@ -1,19 +1,19 @@
-use Rattle.std.proofs.Common.{rules, ◌≡◌, ◌≤◌, ◌*◌, ℕ, Err, sym, ◌∙◌, subst}
+use Rattle.std.proofs.Common.{rules, ◌≡◌, ℕ, Ok, Err, sym, ◌∙◌, subst}
 use Rattle.amp_dense.specs.declared.stop.Stop.{Stop}
 use Rattle.gate_set.specs.Circuits.{Circuit}
 use Rattle.circuit_model.specs.Product.{exponent}
 use Rattle.comparison.specs.Scalars.{comparison, compared}
-use Rattle.comparison.specs.Products.{AllStepsFit}
 use Rattle.comparison.specs.Steps.{steps_of}
 use Rattle.comparison.proofs.Verdicts.{verdict-short}
-use Rattle.equivalence.specs.Stops.{AllStepsStored, StopMeans}
-use Rattle.sliq_engine.specs.declared.output.SendStop.{SendStop}
-use Rattle.sliq_engine.specs.declared.cause.Cause.{Cause}
-use Rattle.sliq_engine.specs.Steps.{SameQubits, cause_of}
+use Rattle.amp_dense.specs.Standing.{MayStop}
+use Rattle.unitary_update.specs.Kept.{Standing, Multiplies}
+use Rattle.outputs.specs.declared.output.SendStop.{SendStop}
+use Rattle.causes.specs.declared.cause.Cause.{Cause}
+use Rattle.sliq_engine.specs.Steps.{SameQubits}
+use Rattle.causes.specs.Stops.{cause_of, cause_of_sending}
 use Rattle.sliq_engine.specs.Eq.{Compares}
 use Rattle.sliq_engine.specs.Ending.{MayEnd, MayStopBy}
-use Rattle.sliq_engine.specs.Private.{cause_of_sending}
-use Rattle.sliq_engine.proofs.EqLemmas.{eq_refused, eq_refused_second, eq_unlike, eq_halts, eq_stops, eq_done, eq_differs}
+use Rattle.sliq_engine.proofs.EqExits.{eq_refused, eq_refused_second, eq_unlike, eq_halts, eq_stops, eq_done, eq_differs}
 use Rattle.sliq_engine.proofs.eq.eq.Goals as goal
 
 pub returns-in_err-u-clause-stop : goal.returns-in_err-u-clause-stop
@@ -52,7 +52,7 @@ returns-in_err-verdict-clause-stop g c =
     let v : Circuit = c.in_ok-v.v in
     let stop : Stop = c.in_err-verdict.field-0.0 in
     let told : c.from_residual-in_err-verdict.result ≡ Err (cause_of stop) = search rules in
-    let means : StopMeans c.args.rules.now u.qubits (steps_of u.gates v.gates) stop = c.in_err-verdict.ensures.stop in
+    let means : MayStop (Multiplies c.args.rules.now u.qubits (steps_of u.gates v.gates)) stop = c.in_err-verdict.ensures.stop in
     rw told (eq_halts c.args.rules.now c.args.one.now c.args.two.now c.in_ok-u.u c.in_ok-u.ensures.reads c.in_ok-v.v c.in_ok-v.ensures.reads (same_numbers c.in_ok-u.u.qubits c.in_ok-v.v.qubits c.qubits.result c.qubits-2.result c.qubits.ensures.value c.qubits-2.ensures.value c.in_ok-check_qubits.ensures.same) stop (g.K.Sink.written c.args.out.now) means)
 
 pub send_verdict-requires : goal.send_verdict-requires
@@ -67,9 +67,8 @@ returns-in_err-send_verdict-clause-stop g c =
     let v : Circuit = c.in_ok-v.v in
     let stop : SendStop = c.in_err-send_verdict.field-0.0 in
     let told : c.from_residual-in_err-send_verdict.result ≡ Err (cause_of_sending stop) = search rules in
-    let room : 3 * u.qubits ≤ c.args.rules.now.nodes = c.in_ok-verdict.ensures.room in
-    let fits : AllStepsFit c.args.rules.now.width u.qubits (steps_of u.gates v.gates) × AllStepsStored c.args.rules.now u.qubits (steps_of u.gates v.gates) = (c.in_ok-verdict.ensures.fits, c.in_ok-verdict.ensures.stored) in
-    rw told (eq_stops c.args.rules.now c.args.one.now c.args.two.now c.in_ok-u.u c.in_ok-u.ensures.reads c.in_ok-v.v c.in_ok-v.ensures.reads (same_numbers c.in_ok-u.u.qubits c.in_ok-v.v.qubits c.qubits.result c.qubits-2.result c.qubits.ensures.value c.qubits-2.ensures.value c.in_ok-check_qubits.ensures.same) room fits c.in_ok-verdict.verdict c.in_ok-verdict.ensures.verdict stop
+    let came : (m : Standing) × Multiplies c.args.rules.now u.qubits (steps_of u.gates v.gates) (Ok m) = c.in_ok-verdict.ensures.comes in
+    rw told (eq_stops c.args.rules.now c.args.one.now c.args.two.now c.in_ok-u.u c.in_ok-u.ensures.reads c.in_ok-v.v c.in_ok-v.ensures.reads (same_numbers c.in_ok-u.u.qubits c.in_ok-v.v.qubits c.qubits.result c.qubits-2.result c.qubits.ensures.value c.qubits-2.ensures.value c.in_ok-check_qubits.ensures.same) came c.in_ok-verdict.verdict c.in_ok-verdict.ensures.verdict stop
     (g.K.Sink.written c.args.out.now) (g.K.Sink.written c.send_verdict.new.out) c.in_err-send_verdict.ensures.err)
 
 pub returns-in_err-told-clause-stop : goal.returns-in_err-told-clause-stop
@@ -78,18 +77,16 @@ returns-in_err-told-clause-stop g c =
     let v : Circuit = c.in_ok-v.v in
     let cause : Cause = c.in_err-told.field-0.0 in
     let told : c.from_residual-in_err-told.result ≡ Err cause = search rules in
-    let room : 3 * u.qubits ≤ c.args.rules.now.nodes = c.in_ok-verdict.ensures.room in
-    let fits : AllStepsFit c.args.rules.now.width u.qubits (steps_of u.gates v.gates) × AllStepsStored c.args.rules.now u.qubits (steps_of u.gates v.gates) = (c.in_ok-verdict.ensures.fits, c.in_ok-verdict.ensures.stored) in
+    let came : (m : Standing) × Multiplies c.args.rules.now u.qubits (steps_of u.gates v.gates) (Ok m) = c.in_ok-verdict.ensures.comes in
     let said = c.in_err-told.ensures.differs in
     let P : Cause → Type 0 = λ k. MayEnd (Compares c.args.rules.now c.args.one.now c.args.two.now) k (g.K.Sink.written c.args.out.now) (g.K.Sink.written c.send_verdict.new.out) in
-    rw told (subst P (sym said.1) (eq_differs c.args.rules.now c.args.one.now c.args.two.now c.in_ok-u.u c.in_ok-u.ensures.reads c.in_ok-v.v c.in_ok-v.ensures.reads (same_numbers c.in_ok-u.u.qubits c.in_ok-v.v.qubits c.qubits.result c.qubits-2.result c.qubits.ensures.value c.qubits-2.ensures.value c.in_ok-check_qubits.ensures.same) room fits c.in_ok-verdict.verdict c.in_ok-verdict.ensures.verdict
+    rw told (subst P (sym said.1) (eq_differs c.args.rules.now c.args.one.now c.args.two.now c.in_ok-u.u c.in_ok-u.ensures.reads c.in_ok-v.v c.in_ok-v.ensures.reads (same_numbers c.in_ok-u.u.qubits c.in_ok-v.v.qubits c.qubits.result c.qubits-2.result c.qubits.ensures.value c.qubits-2.ensures.value c.in_ok-check_qubits.ensures.same) came c.in_ok-verdict.verdict c.in_ok-verdict.ensures.verdict
     (g.K.Sink.written c.args.out.now) (g.K.Sink.written c.send_verdict.new.out) (sym said.0 ∙ said.1) c.in_ok-send_verdict.ensures.ok))
 
 pub returns-clause-done : goal.returns-clause-done
 returns-clause-done g c =
     let u : Circuit = c.in_ok-u.u in
     let v : Circuit = c.in_ok-v.v in
-    let room : 3 * u.qubits ≤ c.args.rules.now.nodes = c.in_ok-verdict.ensures.room in
-    let fits : AllStepsFit c.args.rules.now.width u.qubits (steps_of u.gates v.gates) × AllStepsStored c.args.rules.now u.qubits (steps_of u.gates v.gates) = (c.in_ok-verdict.ensures.fits, c.in_ok-verdict.ensures.stored) in
-    eq_done c.args.rules.now c.args.one.now c.args.two.now c.in_ok-u.u c.in_ok-u.ensures.reads c.in_ok-v.v c.in_ok-v.ensures.reads (same_numbers c.in_ok-u.u.qubits c.in_ok-v.v.qubits c.qubits.result c.qubits-2.result c.qubits.ensures.value c.qubits-2.ensures.value c.in_ok-check_qubits.ensures.same) room fits c.in_ok-verdict.verdict c.in_ok-verdict.ensures.verdict
+    let came : (m : Standing) × Multiplies c.args.rules.now u.qubits (steps_of u.gates v.gates) (Ok m) = c.in_ok-verdict.ensures.comes in
+    eq_done c.args.rules.now c.args.one.now c.args.two.now c.in_ok-u.u c.in_ok-u.ensures.reads c.in_ok-v.v c.in_ok-v.ensures.reads (same_numbers c.in_ok-u.u.qubits c.in_ok-v.v.qubits c.qubits.result c.qubits-2.result c.qubits.ensures.value c.qubits-2.ensures.value c.in_ok-check_qubits.ensures.same) came c.in_ok-verdict.verdict c.in_ok-verdict.ensures.verdict
     (g.K.Sink.written c.args.out.now) (g.K.Sink.written c.send_verdict.new.out) c.in_ok-told.ensures.done c.in_ok-send_verdict.ensures.ok

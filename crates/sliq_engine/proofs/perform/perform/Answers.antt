@@ -1,7 +1,7 @@
 use Rattle.std.proofs.Common.{◌≡◌, ◌<◌, ℕ, List, [], Option, Result, Vec, Global, IfErr, length, get_or, sym, ◌∙◌, ap, subst, arith}
 use Rattle.std.proofs.lemmas.List.{get_or-map}
 use Rattle.amp_dense.specs.Rules.{Settings}
-use Rattle.sliq_engine.specs.declared.cause.Cause.{Cause}
+use Rattle.causes.specs.declared.cause.Cause.{Cause}
 use Rattle.sliq_words.specs.declared.reading.Task.{Task}
 use Rattle.sliq_words.specs.declared.reading.Task.TheVariants as task
 use Rattle.sliq_words.specs.Asked.{file_count}

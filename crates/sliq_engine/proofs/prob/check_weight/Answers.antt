@@ -3,8 +3,8 @@ use Rattle.std.proofs.lemmas.List.{length-replicate}
 use Rattle.amp_dense.specs.Standing.{vector}
 use Rattle.probabilities.specs.Weighing.{weight_at, total_weight}
 use Rattle.probabilities.proofs.WeighingLemmas.{all_free}
-use Rattle.sliq_engine.specs.Private.{cause_of_weighing}
-use Rattle.sliq_engine.proofs.ProbLemmas.{heavy_stop, light_end}
+use Rattle.causes.specs.Stops.{cause_of_weighing}
+use Rattle.sliq_engine.proofs.ProbExits.{heavy_stop, light_end}
 use Rattle.sliq_engine.proofs.prob.check_weight.Goals as goal
 
 pub weigh-requires : goal.weigh-requires

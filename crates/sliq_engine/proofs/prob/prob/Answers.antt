@@ -7,12 +7,12 @@ use Rattle.amp_dense.proofs.Walking.{walked}
 use Rattle.state_update.specs.Kept.{standing_of, sliced_policy}
 use Rattle.probabilities.specs.Outcomes.{counted}
 use Rattle.probabilities.specs.Weighing.{total_weight, IsNarrow}
-use Rattle.sliq_engine.specs.declared.output.SendStop.{SendStop}
-use Rattle.sliq_engine.specs.declared.cause.Cause.{Cause}
+use Rattle.outputs.specs.declared.output.SendStop.{SendStop}
+use Rattle.causes.specs.declared.cause.Cause.{Cause}
 use Rattle.sliq_engine.specs.Steps.{zeros, Simulates}
 use Rattle.sliq_engine.specs.Ending.{MayStopBy}
-use Rattle.sliq_engine.specs.Private.{cause_of_sending}
-use Rattle.sliq_engine.proofs.ProbLemmas.{prob_refused, prob_halts, prob_too_heavy, prob_stops, prob_ends, light_total}
+use Rattle.causes.specs.Stops.{cause_of_sending}
+use Rattle.sliq_engine.proofs.ProbExits.{prob_refused, prob_halts, prob_too_heavy, prob_stops, prob_ends, light_total}
 use Rattle.sliq_engine.proofs.prob.prob.Goals as goal
 
 pub returns-in_err-circuit-clause-stop : goal.returns-in_err-circuit-clause-stop

@@ -3,13 +3,13 @@ use Rattle.gate_set.specs.Circuits.{Circuit}
 use Rattle.amp_dense.specs.Standing.{Standing, begun}
 use Rattle.amp_dense.proofs.Walking.{walked}
 use Rattle.state_update.specs.Kept.{standing_of, sliced_policy}
-use Rattle.sliq_engine.specs.declared.output.SendStop.{SendStop}
-use Rattle.sliq_engine.specs.declared.cause.Cause.{Cause}
+use Rattle.outputs.specs.declared.output.SendStop.{SendStop}
+use Rattle.causes.specs.declared.cause.Cause.{Cause}
 use Rattle.sliq_engine.specs.Steps.{SameQubits, Simulates}
 use Rattle.sliq_engine.specs.Sim.{input_for}
 use Rattle.sliq_engine.specs.Ending.{MayStopBy}
-use Rattle.sliq_engine.specs.Private.{cause_of_sending}
-use Rattle.sliq_engine.proofs.SimLemmas.{sim_refused, sim_differs, sim_halts, sim_stops, sim_ends}
+use Rattle.causes.specs.Stops.{cause_of_sending}
+use Rattle.sliq_engine.proofs.SimExits.{sim_refused, sim_differs, sim_halts, sim_stops, sim_ends}
 use Rattle.sliq_engine.proofs.sim.sim.Goals as goal
 
 pub returns-in_err-circuit-clause-stop : goal.returns-in_err-circuit-clause-stop

@@ -5,8 +5,8 @@ use Rattle.gate_set.specs.Shape.{IsOn}
 use Rattle.amp_dense.specs.declared.stop.Stop.{Stop}
 use Rattle.amp_dense.specs.Standing.{Walks, begun}
 use Rattle.amp_dense.proofs.Walking.{walked, walk_on, walk_stops}
-use Rattle.sliq_engine.specs.Steps.{cause_of}
-use Rattle.sliq_engine.proofs.StepLemmas.{simulation_stops}
+use Rattle.causes.specs.Stops.{cause_of}
+use Rattle.sliq_engine.proofs.Endings.{simulation_stops}
 use Rattle.sliq_engine.proofs.simulation.simulated.Goals as goal
 
 pub gates-init : goal.gates-init

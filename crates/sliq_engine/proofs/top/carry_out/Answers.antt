@@ -1,7 +1,7 @@
 use Rattle.std.proofs.Common.{◌≡◌, ℕ, List, Vec, Global, Ok, Err, map, string_bytes, ap, subst}
 use Rattle.sliq_words.specs.Asked.{Request, request_of}
-use Rattle.sliq_engine.specs.declared.cause.Cause.{Cause}
-use Rattle.sliq_engine.specs.declared.cause.Cause.TheVariants.{Done}
+use Rattle.causes.specs.declared.cause.Cause.{Cause}
+use Rattle.causes.specs.declared.cause.Cause.TheVariants.{Done}
 use Rattle.outside.specs.Outside.{Shelf}
 use Rattle.sliq_engine.specs.Taking.{Takes}
 use Rattle.sliq_engine.specs.Comes.{CarriesOut}

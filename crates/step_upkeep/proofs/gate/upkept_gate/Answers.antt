@@ -5,9 +5,9 @@ use Rattle.slice_quad.specs.Stops.{OnWidth}
 use Rattle.slice_gates.specs.declared.side.Side.TheVariants.{State}
 use Rattle.slice_gates.specs.GateWork.{gate_work}
 use Rattle.slice_gates.specs.Stepped.{IsStepOf}
-use Rattle.slice_gates.proofs.Shown.{fits_shown, unfit_shown, step_at, one_half, shows_next}
+use Rattle.slice_gates.proofs.Shown.{fits_shown, unfit_shown, step_at, one_half}
 use Rattle.step_upkeep.specs.Upkept.{NeedsNodes}
-use Rattle.step_upkeep.proofs.Gates.{gate_needs, gate_holds}
+use Rattle.step_upkeep.proofs.Gates.{gate_needs, gate_holds, gate_shown}
 use Rattle.step_upkeep.proofs.gate.upkept_gate.Goals as goal
 
 pub upkept_step-requires-clause-on : goal.upkept_step-requires-clause-on
@@ -47,7 +47,7 @@ returns-in_err-upkept_step-clause-full c w shown =
     let e : c.len-vars.result ≡ length u.store.order = c.len-vars.ensures.value ∙ ap (λ (l : List ℕ). length l) (c.order.ensures ∙ ap (λ (d : Diagram). d.order) c.store.ensures.value) in
     let is : IsStepOf (length u.store.order) State gate s = step_at c.len-vars.result (length u.store.order) gate s e c.step_of-s.ensures in
     let sound = c.store.ensures.sound.store in
-    let stop : NeedsNodes u.store (gate_work (length u.store.order) (length q.four.a) (function_of u.store q.kept.0) gate w.entries) c.in_err-upkept_step.field-0.0 = gate_needs u.store q w gate s sound shown is c.in_err-upkept_step.field-0.0 c.in_err-upkept_step.ensures.full in
+    let stop : NeedsNodes c.upkept_step.new.d.store (gate_work (length u.store.order) (length q.four.a) (function_of u.store q.kept.0) gate w.entries) c.in_err-upkept_step.field-0.0 = gate_needs u.store c.upkept_step.new.d.store q w gate s sound shown is c.in_err-upkept_step.field-0.0 c.in_err-upkept_step.ensures.full in
     search rules
 
 pub returns-clause-shown : goal.returns-clause-shown
@@ -57,7 +57,7 @@ returns-clause-shown c w shown =
     let e : c.len-vars.result ≡ length u.store.order = c.len-vars.ensures.value ∙ ap (λ (l : List ℕ). length l) (c.order.ensures ∙ ap (λ (d : Diagram). d.order) c.store.ensures.value) in
     let is : IsStepOf (length u.store.order) State gate s = step_at c.len-vars.result (length u.store.order) gate s e c.step_of-s.ensures in
     let sound = c.store.ensures.sound.store in
-    shows_next u.store c.upkept_step.new.d.store q c.upkept_step.new.q w gate s shown is c.upkept_step.ensures.keeps.sound.store c.upkept_step.ensures.keeps.order c.in_ok-upkept_step.ensures.settled
+    gate_shown u.store c.upkept_step.new.d.store q c.upkept_step.new.q w gate s shown is c.upkept_step.ensures.keeps.sound.store c.upkept_step.ensures.keeps.variables c.in_ok-upkept_step.ensures.settled
 
 pub returns-clause-fits : goal.returns-clause-fits
 returns-clause-fits c w shown =
@@ -69,10 +69,10 @@ returns-clause-fits c w shown =
     fits_shown (length u.store.order) c.args.width u.store q.four q.exponent w gate s shown is c.in_ok-upkept_step.ensures.fits
 
 pub returns-clause-holds : goal.returns-clause-holds
-returns-clause-holds c w shown due =
+returns-clause-holds c w shown due not_sifted =
     let u = c.args.d.now in let q = c.args.q.now in let gate = c.args.gate.now in
     let s = c.step_of-s.result in
     let e : c.len-vars.result ≡ length u.store.order = c.len-vars.ensures.value ∙ ap (λ (l : List ℕ). length l) (c.order.ensures ∙ ap (λ (d : Diagram). d.order) c.store.ensures.value) in
     let is : IsStepOf (length u.store.order) State gate s = step_at c.len-vars.result (length u.store.order) gate s e c.step_of-s.ensures in
     let sound = c.store.ensures.sound.store in
-    gate_holds u.store c.upkept_step.new.d.store q w gate s sound shown is (c.in_ok-upkept_step.ensures.holds due)
+    gate_holds u.store c.upkept_step.new.d.store q w gate s sound shown is (c.in_ok-upkept_step.ensures.holds due not_sifted)

@@ -18,7 +18,7 @@ returns-in_err-_freed c =
 
 pub once-second-requires-clause-on : goal.once-second-requires-clause-on
 once-second-requires-clause-on c =
-    let order = c.reclaim_to.ensures.keeps.order ∙ c.once-first.ensures.grows.extends.order in
+    let order = c.reclaim_to.ensures.order ∙ c.once-first.ensures.grows.extends.order in
     subst (λ (l : List ℕ). IsStepOn (length l) c.args.s.now) (sym order) c.requires.on
 
 pub once-second-requires-clause-exponent : goal.once-second-requires-clause-exponent
@@ -29,4 +29,4 @@ once-second-requires-clause-exponent c =
 pub returns : goal.returns
 returns c =
     tried_again c.args.d.now c.once-first.new.d c.reclaim_to.new.d c.once-second.new.d c.args.s.now c.args.q.now c.once-first.new.q c.once-second.new.q c.args.width c.once-first.result c.once-second.result
-    c.cached-cached.ensures.sound c.requires.stands (sym c.is_full.ensures ∙ c.if-not-is_full.false) c.once-first.ensures c.reclaim_to.ensures.keeps c.in_ok-_freed.ensures.holds c.once-second.ensures
+    c.cached-cached.ensures.sound c.requires.stands (sym c.is_full.ensures ∙ c.if-not-is_full.false) c.once-first.ensures (record { keeps = c.reclaim_to.ensures.keeps; order = c.reclaim_to.ensures.order }) c.in_ok-_freed.ensures.holds c.once-second.ensures

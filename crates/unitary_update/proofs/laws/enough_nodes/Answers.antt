@@ -2,4 +2,4 @@ use Rattle.unitary_update.proofs.Enough.{enough}
 use Rattle.unitary_update.proofs.laws.enough_nodes.Goals as goal
 
 pub returns : goal.returns
-returns c = λ s t on long limit number order held stop. enough s t on long limit stop.3
+returns c = λ s t on is long limit number order held stop. enough s t on is long limit number order held stop

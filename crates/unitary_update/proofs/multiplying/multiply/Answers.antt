@@ -35,15 +35,15 @@ pub returns-in_err-upkept_step-clause-full : goal.returns-in_err-upkept_step-cla
 returns-in_err-upkept_step-clause-full c =
     let u = c.args.d.now in let q = c.args.q.now in let n = c.args.qubits in let t : Step = step_in c.args.factor.now in
     let s = c.sided-s.result in let is : IsSided n t s = c.sided-s.ensures in
-    let stop : NeedsNodes u.store (work_in u.store (sliced_step n t) q) c.in_err-upkept_step.field-0.0 =
-    subst (λ (k : SlicedStep). NeedsNodes u.store (work_in u.store k q) c.in_err-upkept_step.field-0.0) (sided_value n t s is) c.in_err-upkept_step.ensures.full in
+    let stop : NeedsNodes c.upkept_step.new.d.store (work_in u.store (sliced_step n t) q) c.in_err-upkept_step.field-0.0 =
+    subst (λ (k : SlicedStep). NeedsNodes c.upkept_step.new.d.store (work_in u.store k q) c.in_err-upkept_step.field-0.0) (sided_value n t s is) c.in_err-upkept_step.ensures.full in
     search rules
 
 pub returns-clause-shown : goal.returns-clause-shown
 returns-clause-shown c w shown =
     let u = c.args.d.now in let q = c.args.q.now in let n = c.args.qubits in let t : Step = step_in c.args.factor.now in
     let s = c.sided-s.result in let is : IsSided n t s = c.sided-s.ensures in
-    shows_next n u.store c.upkept_step.new.d.store q c.upkept_step.new.q w t s shown is c.upkept_step.ensures.keeps.sound.store c.upkept_step.ensures.keeps.order c.requires.variables c.in_ok-upkept_step.ensures.settled
+    shows_next n u.store c.upkept_step.new.d.store q c.upkept_step.new.q w t s shown is c.upkept_step.ensures.keeps.sound.store c.upkept_step.ensures.keeps.variables c.requires.variables c.in_ok-upkept_step.ensures.settled
 
 pub returns-clause-fits : goal.returns-clause-fits
 returns-clause-fits c w shown =
@@ -58,7 +58,7 @@ returns-clause-raised c =
     raised n c.upkept_step.new.d.store _ t s q.exponent c.upkept_step.new.q is c.in_ok-upkept_step.ensures.settled
 
 pub returns-clause-holds : goal.returns-clause-holds
-returns-clause-holds c due =
+returns-clause-holds c due still =
     let u = c.args.d.now in let q = c.args.q.now in let n = c.args.qubits in let t : Step = step_in c.args.factor.now in
     let s = c.sided-s.result in let is : IsSided n t s = c.sided-s.ensures in
-    subst (λ (k : SlicedStep). HoldsOnly c.upkept_step.new.d.store (IsWork u.store k q)) (sided_value n t s is) (c.in_ok-upkept_step.ensures.holds due)
+    subst (λ (k : SlicedStep). HoldsOnly c.upkept_step.new.d.store (IsWork u.store k q)) (sided_value n t s is) (c.in_ok-upkept_step.ensures.holds due still)

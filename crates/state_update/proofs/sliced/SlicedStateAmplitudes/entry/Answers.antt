@@ -1,13 +1,13 @@
 use Rattle.std.proofs.Common.{◌≡◌, ap, sym, ◌∙◌, length}
 use Rattle.circuit_model.specs.Working.{work}
 use Rattle.state_update.specs.Kept.{State}
-use Rattle.state_update.proofs.StateLemmas.{size_of_order, state_with, entry_is}
+use Rattle.state_update.proofs.StateLemmas.{state_with, entry_is}
 use Rattle.state_update.proofs.sliced.SlicedStateAmplitudes.entry.Goals as goal
 
 pub entry-requires-clause-len : goal.entry-requires-clause-len
 entry-requires-clause-len c =
     let s = c.self.inside in
-    c.requires ∙ ap (λ (t : State). length t.input) (sym c.self.view_is) ∙ sym (size_of_order s.diagrams.store.order (length s.input) c.self.invariant.order)
+    c.requires ∙ ap (λ (t : State). length t.input) (sym c.self.view_is) ∙ sym c.self.invariant.variables
 
 pub returns : goal.returns
 returns c =

@@ -1,17 +1,11 @@
-use Rattle.std.proofs.Common.{ap, sym, ◌∙◌, length, None, subst}
-use Rattle.std.specs.List.{range_with_len}
+use Rattle.std.proofs.Common.{length, None, subst}
 use Rattle.circuit_model.specs.Working.{work}
 use Rattle.amp_dense.specs.Nonzero as amplitudes
 use Rattle.slice_quad.specs.Nonzero.{NoneAfter}
 use Rattle.slice_quad.specs.Walks.{entries_in}
 use Rattle.state_update.specs.Kept.{State}
-use Rattle.state_update.proofs.StateLemmas.{size_of_order, state_with, last_is, none_is, ok_some, ok_none}
+use Rattle.state_update.proofs.StateLemmas.{state_with, last_is, none_is, ok_some, ok_none}
 use Rattle.state_update.proofs.sliced.SlicedStateAmplitudes.last_nonzero.Goals as goal
-
-pub last_nonzero-requires-clause-natural : goal.last_nonzero-requires-clause-natural
-last_nonzero-requires-clause-natural c =
-    let s = c.self.inside in
-    c.self.invariant.order ∙ ap (range_with_len 0) (sym (size_of_order s.diagrams.store.order (length s.input) c.self.invariant.order))
 
 pub returns-clause-found : goal.returns-clause-found
 returns-clause-found c =
@@ -20,7 +14,7 @@ returns-clause-found c =
     let n = length s.diagrams.store.order in
     ok_some c.last_nonzero.result (amplitudes.IsLastNonzero n (entries_in s.diagrams.store s.quad.four)) _ c.last_nonzero.ensures.found
     (λ x is. subst (λ (t : State). amplitudes.IsLastNonzero (length t.input) (work t.gates t.input).entries x) c.self.view_is
-    (last_is shown n x c.self.invariant (size_of_order s.diagrams.store.order (length s.input) c.self.invariant.order) is))
+    (last_is shown n x c.self.invariant c.self.invariant.variables is))
 
 pub returns-clause-none : goal.returns-clause-none
 returns-clause-none c =
@@ -29,4 +23,4 @@ returns-clause-none c =
     let n = length s.diagrams.store.order in
     ok_none c.last_nonzero.result (NoneAfter n (entries_in s.diagrams.store s.quad.four) None) _ c.last_nonzero.ensures.none
     (λ none. subst (λ (t : State). amplitudes.NoneAfter (length t.input) (work t.gates t.input).entries None) c.self.view_is
-    (none_is shown n None c.self.invariant (size_of_order s.diagrams.store.order (length s.input) c.self.invariant.order) none))
+    (none_is shown n None c.self.invariant c.self.invariant.variables none))

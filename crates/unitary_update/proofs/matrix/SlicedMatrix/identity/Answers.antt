@@ -31,4 +31,4 @@ returns-in-Err-Full-clause-stops c =
     let order = c.order.ensures ∙ ap (λ (e : Diagram). e.order) c.store.ensures.value ∙ c.identity.ensures.extends.order ∙ c.in_ok-diagrams.ensures.order in
     let told : c.in-Err-Full.held ≡ c.args.rules.now.nodes = full.0 ∙ limit in
     let held_is = c.in-Err-Full.held-is in
-    (refl, order, cc, subst (λ i. i < 3 * c.args.qubits) limit full.1)
+    (subst (λ i. i < 3 * c.args.qubits) limit full.1, rw (held_is, told, order) refl)

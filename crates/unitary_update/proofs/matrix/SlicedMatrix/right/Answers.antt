@@ -3,9 +3,10 @@ use Rattle.std.specs.Prelude.{IfErr, OnOk}
 use Rattle.std.proofs.Math.Path.{ap₂}
 use Rattle.gate_set.specs.declared.gate.Gate.{Gate}
 use Rattle.gate_set.specs.Shape.{IsOn}
+use Rattle.amp_dense.specs.Standing.{MayStop}
 use Rattle.comparison.specs.Products.Step.{right}
 use Rattle.node_reclaim.specs.Reclaims.{HoldsOnly}
-use Rattle.unitary_update.specs.Kept.{standing_of, Accepts, InWork, StopMeans}
+use Rattle.unitary_update.specs.Kept.{standing_of, Accepts, Applies, InWork}
 use Rattle.unitary_update.proofs.matrix.SlicedMatrix.right.Goals as goal
 
 pub accept-requires-clause-within : goal.accept-requires-clause-within
@@ -24,10 +25,10 @@ pub returns-clause-stops : goal.returns-clause-stops
 returns-clause-stops c =
     let g : Gate = c.args.gate.now in
     let same : c.new-factor.result ≡ g = c.new-factor.ensures.value ∙ ap₂ (λ k o. let p : Gate = record { kind = k; on = o } in p) c.kind.ensures.kind c.on.ensures.on in
-    subst (λ (p : Gate). IfErr c.accept.result (StopMeans (standing_of c.args.self.now) (right p))) same c.accept.ensures.stops
+    subst (λ (p : Gate). IfErr c.accept.result (MayStop (Applies (standing_of c.args.self.now) (right p)))) same c.accept.ensures.stops
 
 pub returns-clause-after_reclaim : goal.returns-clause-after_reclaim
-returns-clause-after_reclaim c due =
+returns-clause-after_reclaim c due still =
     let g : Gate = c.args.gate.now in
     let same : c.new-factor.result ≡ g = c.new-factor.ensures.value ∙ ap₂ (λ k o. let p : Gate = record { kind = k; on = o } in p) c.kind.ensures.kind c.on.ensures.on in
-    subst (λ (p : Gate). OnOk c.accept.result (HoldsOnly c.accept.new.self.diagrams.store (InWork (standing_of c.args.self.now) (right p)))) same (c.accept.ensures.after_reclaim due)
+    subst (λ (p : Gate). OnOk c.accept.result (HoldsOnly c.accept.new.self.diagrams.store (InWork (standing_of c.args.self.now) (right p)))) same (c.accept.ensures.after_reclaim due still)

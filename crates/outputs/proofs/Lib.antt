@@ -1,0 +1,4 @@
+pub mod ListingLemmas
+mod WalkLemmas
+mod FoundLemmas
+mod SummaryLemmas

@@ -1,0 +1,14 @@
+mod StepEnds
+mod SomeEnds
+mod SlicedWalks
+mod SimEnds
+mod ProbEnds
+mod DemoEnds
+mod EqEnds
+mod EqTexts
+mod CommandLemmas
+mod AskedRules
+mod OneRun
+mod EnoughNodes
+mod Completeness
+mod TextLemmas

@@ -1,0 +1,5 @@
+use Rattle.run_laws.proofs.DemoEnds.{never_refused}
+use Rattle.run_laws.proofs.laws.demo_is_never_refused.Goals as goal
+
+pub returns : goal.returns
+returns c rules qubits gates seed some le few file r = never_refused file r rules qubits gates seed some le few

@@ -1,0 +1,6 @@
+use Rattle.outside.specs.Memory.{memory}
+use Rattle.run_laws.proofs.OneRun.{one_run}
+use Rattle.run_laws.proofs.laws.one_run.Goals as goal
+
+pub returns : goal.returns
+returns c = one_run memory

@@ -1,6 +1,0 @@
-use Rattle.outside.specs.Memory.{memory}
-use Rattle.sliq_engine.proofs.TextLemmas.{comes_on_texts}
-use Rattle.sliq_engine.proofs.laws.run_on_texts.Goals as goal
-
-pub returns : goal.returns
-returns c = λ words asked texts old new asks have end h. comes_on_texts memory words asked texts old new asks have.told have.short end h
