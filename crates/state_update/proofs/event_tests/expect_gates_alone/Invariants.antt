@@ -3,4 +3,4 @@ use Rattle.state_update.proofs.event_tests.expect_gates_alone.Given as goal
 
 -- the state without upkeep stays on two qubits
 abbrev pub invariant-events : goal.invariant-events
-invariant-events l = length l.plain.input ≡ 2
+invariant-events g l = length l.plain.input ≡ 2
