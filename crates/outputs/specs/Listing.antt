@@ -1,11 +1,10 @@
 -- Listings: a line for each list of n bits in order, but for those that are left out; and the lines of a vector.
 use Rattle.std.specs.Prelude.{ℕ, Bool, not, cond, List, [], ◌++◌, flat_map, count_by}
 use Rattle.ring_omega.specs.Ring.{is_zero}
-use Rattle.ring_omega.specs.Lowest.{lowest_form}
 use Rattle.bit_lists.specs.Lists.{all_lists}
 use Rattle.circuit_model.specs.Working.{Scaled}
 use Rattle.amp_printer.specs.declared.counted.Counted.TheVariants.{Qubits, States}
-use Rattle.amp_printer.specs.Texts.{state_line, count_line}
+use Rattle.amp_printer.specs.Texts.{lowest_line, count_line}
 
 -- the lines of those that are not left out, one after another
 abbrev pub listing_of : ℕ → (List Bool → Bool) → (List Bool → List ℕ) → List ℕ
@@ -21,7 +20,7 @@ has_no_entry v x = is_zero (v.entries x)
 
 -- the line of a basis state with the lowest form of its amplitude
 abbrev pub entry_line : Scaled → List Bool → List ℕ
-entry_line v x = state_line x (lowest_form (v.entries x) v.exponent).0 (lowest_form (v.entries x) v.exponent).1
+entry_line v x = lowest_line x (v.entries x) v.exponent
 
 -- what is written of a vector on n qubits
 unfoldable pub vector_output : ℕ → Scaled → List ℕ

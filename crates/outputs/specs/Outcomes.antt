@@ -13,12 +13,12 @@ abbrev pub has_no_weight : List Bool → Scaled → List Bool → Bool
 has_no_weight measured v y = is_zero_weight (outcome_weight measured v.entries y)
 
 -- the line of an outcome of this weight over the k-th power of 2, in the weight's lowest form
-abbrev pub lowest_line : Weight → ℕ → List Bool → List ℕ
-lowest_line w k y = weight_line y (lowest_weight_form w k).0 (lowest_weight_form w k).1
+abbrev pub lowest_weight_line : Weight → ℕ → List Bool → List ℕ
+lowest_weight_line w k y = weight_line y (lowest_weight_form w k).0 (lowest_weight_form w k).1
 
 -- the line of an outcome
 abbrev pub outcome_line : List Bool → Scaled → List Bool → List ℕ
-outcome_line measured v y = lowest_line (outcome_weight measured v.entries y) v.exponent y
+outcome_line measured v y = lowest_weight_line (outcome_weight measured v.entries y) v.exponent y
 
 -- what is written of a vector of which these qubits are measured
 unfoldable pub outcomes_output : List Bool → Scaled → List ℕ

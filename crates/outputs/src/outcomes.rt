@@ -8,7 +8,7 @@ ghost use Rattle.probabilities.specs.Weighing.{total_weight, IsNarrow};
 ghost use Rattle.probabilities.specs.Outcomes.{measured_count, outcome_weight};
 ghost use Rattle.probabilities.specs.Possible.{IsNextOutcome, NoOutcomeAfter};
 ghost use Rattle.outputs.specs.Listing.{listing_of, number_listed};
-ghost use Rattle.outputs.specs.Outcomes.{has_no_weight, lowest_line, outcome_line, outcomes_output};
+ghost use Rattle.outputs.specs.Outcomes.{has_no_weight, lowest_weight_line, outcome_line, outcomes_output};
 
 use crate::output::{SendStop, send_count};
 use amp_printer::{Counted, weight_line};
@@ -104,8 +104,8 @@ fn send_outcome<K: Sink>(
     k: u32,
 ) -> Result<(), Failed>
     requires { length y.now ≤ 64 }
-    ensures ok { OnOk result (Sent (K.written out.old) waiting.old (K.written out.new) waiting.new (lowest_line w k y.now)) }
-    ensures err { OnErr result (SentSome (K.written out.old) waiting.old (K.written out.new) (lowest_line w k y.now)) }
+    ensures ok { OnOk result (Sent (K.written out.old) waiting.old (K.written out.new) waiting.new (lowest_weight_line w k y.now)) }
+    ensures err { OnErr result (SentSome (K.written out.old) waiting.old (K.written out.new) (lowest_weight_line w k y.now)) }
     ensures fault { OnErr result (Rose (K.faults out.old) (K.faults out.new)) }
     ensures counts { K.faults out.old ≤ K.faults out.new }
 {

@@ -9,7 +9,7 @@ use Rattle.amp_dense.specs.Standing.{vector}
 use Rattle.probabilities.specs.Outcomes.{measured_count}
 use Rattle.probabilities.specs.Possible.{IsNextOutcome, NoOutcomeAfter}
 use Rattle.outputs.specs.Listing.{listing_of}
-use Rattle.outputs.specs.Outcomes.{has_no_weight, lowest_line, outcome_line}
+use Rattle.outputs.specs.Outcomes.{has_no_weight, lowest_weight_line, outcome_line}
 use Rattle.outputs.proofs.ListingLemmas.{on_err}
 use Rattle.outputs.proofs.FoundLemmas.{found_weighed, some_for}
 use Rattle.outputs.proofs.WalkLemmas.{state_of, place_next, counted, counted_none, counted_all, IsFound, found_count, found_shown, next_within, walked_count, walked_further, lines_none, lines_all, found_lines, walked_lines, walked_front}
@@ -47,8 +47,8 @@ returns-in_err-send_outcome-clause-err g c =
     let n = measured_count m in
     let y = c.in-Some.found.0 in
     let w = vector (g.A.Amplitudes.standing c.args.state.now) in
-    let text : List ℕ = lowest_line c.in-Some.found.1 c.exponent-k.result y in
-    let same : text ≡ outcome_line m w y = ap₂ (λ (u : Weight) (k : ℕ). lowest_line u k y) (c.outcomes.invariant.weight c.in-Some.found c.in-Some.is) c.exponent-k.ensures in
+    let text : List ℕ = lowest_weight_line c.in-Some.found.1 c.exponent-k.result y in
+    let same : text ≡ outcome_line m w y = ap₂ (λ (u : Weight) (k : ℕ). lowest_weight_line u k y) (c.outcomes.invariant.weight c.in-Some.found c.in-Some.is) c.exponent-k.ensures in
     let front = walked_front n (has_no_weight m w) (outcome_line m w) y (state_of c.outcomes.next) text (ap state_of c.in-Some.is) c.outcomes.invariant.shown same in
     let P : List ℕ → Type 0 = λ b. SentSome (g.K.Sink.written c.args.out.now) c.args.waiting.now (g.K.Sink.written c.send_outcome.new.out) b in
     on_err _ _ (subst P front.1 (some_front front.0 (sent_fault c.outcomes.invariant.sent c.in_err-send_outcome.ensures.err)))
@@ -68,8 +68,8 @@ returns-in_err-next-2-clause-err g c =
     let n = measured_count m in
     let y = c.in-Some.found.0 in
     let w = vector (g.A.Amplitudes.standing c.args.state.now) in
-    let text : List ℕ = lowest_line c.in-Some.found.1 c.exponent-k.result y in
-    let same : text ≡ outcome_line m w y = ap₂ (λ (u : Weight) (k : ℕ). lowest_line u k y) (c.outcomes.invariant.weight c.in-Some.found c.in-Some.is) c.exponent-k.ensures in
+    let text : List ℕ = lowest_weight_line c.in-Some.found.1 c.exponent-k.result y in
+    let same : text ≡ outcome_line m w y = ap₂ (λ (u : Weight) (k : ℕ). lowest_weight_line u k y) (c.outcomes.invariant.weight c.in-Some.found c.in-Some.is) c.exponent-k.ensures in
     let front = walked_front n (has_no_weight m w) (outcome_line m w) y (state_of c.outcomes.next) text (ap state_of c.in-Some.is) c.outcomes.invariant.shown same in
     let P : List ℕ → Type 0 = λ b. SentSome (g.K.Sink.written c.args.out.now) c.args.waiting.now (g.K.Sink.written c.send_outcome.new.out) b in
     on_err _ _ (subst P front.1 (some_front front.0 (sent_some (sent_then c.outcomes.invariant.sent c.in_ok-send_outcome.ensures.ok))))
@@ -101,8 +101,8 @@ outcomes-preserved g c =
     let found_next = subst (λ (o : Option (List Bool)). IfSome then (λ e. IsNextOutcome m w.entries o e.0)) given c.in_ok-next-2.ensures.found in
     let none_next = subst (λ (o : Option (List Bool)). IfNone then (NoOutcomeAfter m w.entries o)) given c.in_ok-next-2.ensures.none in
     let found : IsFound n (has_no_weight m w) (Some y) (state_of then) = found_weighed m w (Some y) then (λ z e. (let same : y ≡ z = cc in ap length (sym same) ∙ long)) found_next none_next in
-    let text : List ℕ = lowest_line c.in-Some.found.1 c.exponent-k.result y in
-    let same : text ≡ outcome_line m w y = ap₂ (λ (u : Weight) (k : ℕ). lowest_line u k y) (so_far.weight c.in-Some.found c.in-Some.is) c.exponent-k.ensures in
+    let text : List ℕ = lowest_weight_line c.in-Some.found.1 c.exponent-k.result y in
+    let same : text ≡ outcome_line m w y = ap₂ (λ (u : Weight) (k : ℕ). lowest_weight_line u k y) (so_far.weight c.in-Some.found c.in-Some.is) c.exponent-k.ensures in
     let P : List ℕ → Type 0 = λ b. Sent (g.K.Sink.written c.args.out.now) c.args.waiting.now (g.K.Sink.written c.send_outcome.new.out) c.send_outcome.new.waiting b in
     record {
       sent = subst P (walked_lines n (has_no_weight m w) (outcome_line m w) y (state_of c.outcomes.next) (state_of then) text (ap state_of c.in-Some.is) so_far.shown same found)
