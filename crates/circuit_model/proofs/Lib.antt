@@ -3,3 +3,4 @@ pub mod VectorLemmas
 pub mod WorkingLemmas
 pub mod PrefixLemmas
 pub mod FitLemmas
+pub mod Controlled

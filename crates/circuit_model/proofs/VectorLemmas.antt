@@ -10,7 +10,8 @@ use Rattle.bit_lists.specs.Lists.{all_lists, place_of, bits_at, with_bits}
 use Rattle.bit_lists.proofs.Places.{listed, length-all_lists, get_or-all_lists, place_of-below}
 use Rattle.bit_lists.proofs.OrderLemmas.{same_place}
 use Rattle.gate_set.specs.declared.gate.Gate.{Gate}
-use Rattle.gate_set.specs.Matrix.{entry_of, times_entry}
+use Rattle.gate_set.specs.Matrix.{times_entry}
+use Rattle.gate_set.specs.Shape.{qubits_of, gate_entry}
 use Rattle.circuit_model.specs.Product.{applied, basis_state, same_bits}
 use Rattle.circuit_model.specs.Vector.{at}
 use Rattle.circuit_model.proofs.SumLemmas.{sum_over-same, length-with_bits}
@@ -26,8 +27,8 @@ map-all_lists_same n f g h = map-same f g (all_lists n) [] (λ i lt. h _ (listed
 pub applied-same : (g : Gate) (v w : List Bool → Quad) (x : List Bool) → ((y : List Bool) → length y ≡ length x → v y ≡ w y) → applied g v x ≡ applied g w x
 unfolding applied
 applied-same g v w x h =
-    sum_over-same (all_lists (length g.on)) _ _
-    (λ y. ap (times_entry (entry_of g.kind (place_of (bits_at x g.on)) (place_of y))) (h (with_bits x g.on y) (length-with_bits x g.on y)))
+    sum_over-same (all_lists (length (qubits_of g))) _ _
+    (λ y. ap (times_entry (gate_entry g (place_of (bits_at x (qubits_of g))) (place_of y))) (h (with_bits x (qubits_of g) y) (length-with_bits x (qubits_of g) y)))
 
 pub at-map : (n : ℕ) (v : List Bool → Quad) (x : List Bool) → length x ≡ n → at (map v (all_lists n)) x ≡ v x
 at-map n v x len =

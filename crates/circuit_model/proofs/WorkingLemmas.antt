@@ -9,16 +9,17 @@ use Rattle.ring_omega.specs.Ring.{quad, sum_of, product_of, times_power, omega_u
 use Rattle.ring_omega.specs.Lowest.{is_even}
 use Rattle.ring_omega.proofs.RingLemmas.{quad_eq, times_root-is}
 use Rattle.ring_omega.proofs.RingLaws.{times_power-sum_of, times_power-exchange, times_power-zero}
-use Rattle.ring_omega.proofs.LowestLemmas.{times_power-root_cancel, times_power-times_power, times_power-add}
+use Rattle.ring_omega.proofs.LowestLemmas.{times_power-root_cancel, times_power-product_of, times_power-times_power, times_power-add}
 use Rattle.ring_omega.proofs.LowestFormLemmas.{half-of_even, is_even-of_double}
 use Rattle.bit_lists.specs.Lists.{all_lists, place_of, bits_at, with_bits}
 use Rattle.bit_lists.proofs.Places.{listed, get_or-all_lists, length-all_lists, place_of-below}
 use Rattle.gate_set.specs.declared.gate.Gate.{Gate}
 use Rattle.gate_set.specs.declared.entry.Entry.{Entry}
-use Rattle.gate_set.specs.declared.entry.Entry.TheVariants.{Zero, Omega}
+use Rattle.gate_set.specs.declared.entry.Entry.TheVariants.{Zero, Omega, Root2}
 use Rattle.gate_set.specs.declared.kind.Kind.{Kind}
-use Rattle.gate_set.specs.declared.kind.Kind.TheVariants.{Id, X, Y, Z, H, S, Sdg, T, Tdg, RxP, RxM, RyP, RyM, Cx, Cz, Swap, Ccx, Cswap}
-use Rattle.gate_set.specs.Matrix.{entry_of, times_entry, half_power_of}
+use Rattle.gate_set.specs.declared.kind.Kind.TheVariants.{Id, X, Y, Z, H, S, Sdg, T, Tdg, RxP, RxM, RyP, RyM, Cx, Cz, Swap, Ccx, Cswap, Phase}
+use Rattle.gate_set.specs.Matrix.{times_entry, half_power_of}
+use Rattle.gate_set.specs.Shape.{qubits_of, gate_entry}
 use Rattle.circuit_model.specs.Product.{sum_over, applied, basis_state, amp, exponent}
 use Rattle.circuit_model.specs.Working.{Scaled, scaled, two, IsHalved, is_even_quad, half_quad, all_even, halved, raw, step, work, HasValues}
 use Rattle.circuit_model.proofs.SumLemmas.{sum_over-same}
@@ -32,6 +33,7 @@ rooted-entry : (n : ℕ) (e : Entry) (q : Quad) → rooted n (times_entry e q) �
 unfolding rooted
 rooted-entry n Zero q = times_power-zero root_of_two n
 rooted-entry n (Omega j) q = times_power-exchange root_of_two omega_unit n j q
+rooted-entry n Root2 q = times_power-product_of root_of_two n q
 
 rooted-sum_over : (n : ℕ) (ys : List (List Bool)) (f : List Bool → Quad) → rooted n (sum_over ys f) ≡ sum_over ys (λ y. rooted n (f y))
 unfolding rooted
@@ -41,8 +43,8 @@ rooted-sum_over n (y ∷ ys) f = times_power-sum_of root_of_two n (f y) (sum_ove
 rooted-applied : (n : ℕ) (g : Gate) (v : List Bool → Quad) (x : List Bool) → rooted n (applied g v x) ≡ applied g (λ y. rooted n (v y)) x
 unfolding applied
 rooted-applied n g v x =
-    rooted-sum_over n (all_lists (length g.on)) _
-    ∙ sum_over-same (all_lists (length g.on)) _ _ (λ y. rooted-entry n (entry_of g.kind (place_of (bits_at x g.on)) (place_of y)) (v (with_bits x g.on y)))
+    rooted-sum_over n (all_lists (length (qubits_of g))) _
+    ∙ sum_over-same (all_lists (length (qubits_of g))) _ _ (λ y. rooted-entry n (gate_entry g (place_of (bits_at x (qubits_of g))) (place_of y)) (v (with_bits x (qubits_of g) y)))
 
 raw-HasValues : (n : ℕ) (g : Gate) (w : Scaled) (v : List Bool → Quad) (k : ℕ) → HasValues n w v k → HasValues n (raw g w) (applied g v) (k + half_power_of g.kind)
 unfolding rooted
@@ -204,6 +206,7 @@ half_power_of-small Cz = omega arith
 half_power_of-small Swap = omega arith
 half_power_of-small Ccx = omega arith
 half_power_of-small Cswap = omega arith
+half_power_of-small (Phase j) = omega arith
 
 -- a gate raises the exponent by at most 1
 pub step_exponent : (n : ℕ) (w : Scaled) (g : Gate) → (step n w g).exponent ≤ w.exponent + 1

@@ -1,22 +1,26 @@
 -- The product of the gates' matrices, applied to a basis state. A vector is a function of bit lists, with qubit 0 first. Source: the
--- textbook product of matrices, each gate's matrix standing on its qubits and the identity on the others.
+-- textbook product of matrices, each gate's matrix standing on its qubits, further controls among them, and the identity on the others.
 use Rattle.std.specs.Prelude.{ℕ, Bool, true, false, List, [], ◌∷◌, length, fold, sum_by, cond}
 use Rattle.ring_omega.specs.declared.quad.Quad.{Quad}
 use Rattle.ring_omega.specs.Ring.{zero_quad, one_quad, sum_of}
 use Rattle.bit_lists.specs.Lists.{all_lists, place_of, bits_at, with_bits}
+use Rattle.gate_set.specs.declared.entry.Entry.{Entry}
 use Rattle.gate_set.specs.declared.gate.Gate.{Gate}
-use Rattle.gate_set.specs.Matrix.{entry_of, times_entry, half_power_of}
+use Rattle.gate_set.specs.Matrix.{times_entry, half_power_of}
+use Rattle.gate_set.specs.Shape.{qubits_of, gate_entry}
 
 -- the sum of f over these lists
 abbrev pub sum_over : List (List Bool) → (List Bool → Quad) → Quad
 sum_over [] f = zero_quad
 sum_over (y ∷ ys) f = sum_of (f y) (sum_over ys f)
 
--- the gate's matrix times the vector v: at x the sum over all values y of the gate's qubits
+-- the matrix of these entries on these qubits, times the vector v: at x the sum over all values y of the qubits
+abbrev pub entries_product : (ℕ → ℕ → Entry) → List ℕ → (List Bool → Quad) → List Bool → Quad
+entries_product e on v x = sum_over (all_lists (length on)) (λ y. times_entry (e (place_of (bits_at x on)) (place_of y)) (v (with_bits x on y)))
+
+-- the gate's matrix times the vector, on its further controls and its kind's qubits
 unfoldable pub applied : Gate → (List Bool → Quad) → List Bool → Quad
-applied g v x =
-    sum_over (all_lists (length g.on))
-    (λ y. times_entry (entry_of g.kind (place_of (bits_at x g.on)) (place_of y)) (v (with_bits x g.on y)))
+applied g v x = entries_product (gate_entry g) (qubits_of g) v x
 
 abbrev pub same_bits : List Bool → List Bool → Bool
 same_bits [] [] = true

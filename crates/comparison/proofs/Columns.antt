@@ -1,5 +1,5 @@
 -- The column of a gate's matrix, and the conjugate transpose of a product.
-use Rattle.std.proofs.Common.{◌≡◌, ℕ, ◌^◌, ◌<◌, refl, sym, ◌∙◌, ap, subst, Bool, true, false, cond, ◌&&◌, List, [], ◌∷◌, length, All}
+use Rattle.std.proofs.Common.{◌≡◌, ℕ, ◌+◌, ◌^◌, ◌<◌, refl, sym, ◌∙◌, ap, subst, Bool, true, false, cond, ◌&&◌, List, [], ◌∷◌, length, All}
 use Rattle.std.proofs.Math.Path.{ap₂}
 use Rattle.std.proofs.lemmas.Bool.Decides.{Decides-like, Decides-and, same_from_decides}
 use Rattle.ring_omega.specs.declared.quad.Quad.{Quad}
@@ -9,7 +9,7 @@ use Rattle.bit_lists.specs.Lists.{all_lists, place_of, bits_at, with_bits}
 use Rattle.bit_lists.proofs.Places.{place_of-below}
 use Rattle.gate_set.specs.declared.gate.Gate.{Gate}
 use Rattle.gate_set.specs.Matrix.{arity_of}
-use Rattle.gate_set.specs.Shape.{IsOn}
+use Rattle.gate_set.specs.Shape.{IsOn, qubits_of}
 use Rattle.gate_set.specs.Circuits.{inverse_gate, inverse_gates}
 use Rattle.gate_set.specs.Unitary.{entry_value}
 use Rattle.gate_set.proofs.UnitaryLemmas.{adjoint}
@@ -18,7 +18,7 @@ use Rattle.circuit_model.proofs.SumLemmas.{sum_over-same, length-with_bits, leng
 use Rattle.comparison.proofs.Sums.{sum_over_lists-same, pick}
 use Rattle.comparison.proofs.Linear.{term, applied-terms, run, run-same, run-sum_over, run-scaled, product_of-chosen}
 use Rattle.comparison.proofs.Bits.{AreApart, with_bits-twice, bits_at-with_bits, with_bits-bits_at}
-use Rattle.comparison.proofs.Undo.{apart_of, Decides-same_bits, inverse_gates-cons, run-append, heads}
+use Rattle.comparison.proofs.Undo.{qubit_count, apart_of, Decides-same_bits, inverse_gates-cons, run-append, heads}
 
 -- ---- where two basis states meet at a gate
 -- x with the gate's bits set to y is c where y is what c has there and x is c elsewhere
@@ -61,12 +61,12 @@ chosen_both false b q = refl
 
 -- a gate on a basis state is a column of its matrix
 pub column : (n : ℕ) (g : Gate) (c x : List Bool) → IsOn n g → length c ≡ n → length x ≡ n
-    → applied g (basis_state c) x ≡ sum_over (all_lists (length g.on)) (λ y. product_of (entry_value g.kind (place_of y) (place_of (bits_at c g.on))) (basis_state (with_bits c g.on y) x))
+    → applied g (basis_state c) x ≡ sum_over (all_lists (length (qubits_of g))) (λ y. product_of (entry_value (length g.extra) g.kind (place_of y) (place_of (bits_at c (qubits_of g)))) (basis_state (with_bits c (qubits_of g) y) x))
 unfolding term
 column n g c x on lc lx =
-    let qs = g.on in
+    let qs = qubits_of g in
     let a = apart_of n g on in
-    let e = λ (r s : List Bool). entry_value g.kind (place_of r) (place_of s) in
+    let e = λ (r s : List Bool). entry_value (length g.extra) g.kind (place_of r) (place_of s) in
     let b = same_bits (with_bits x qs (bits_at c qs)) c in
     let b' = same_bits (with_bits c qs (bits_at x qs)) x in
     let same : b ≡ b' = elsewhere n qs x c a in
@@ -87,13 +87,13 @@ column n g c x on lc lx =
 -- so a gate before others multiplies their product from the right
 pub gate_before : (n : ℕ) (g : Gate) (gates : List Gate) (c x : List Bool) → IsOn n g → length c ≡ n → length x ≡ n
     → run gates (applied g (basis_state c)) x
-    ≡ sum_over (all_lists (length g.on)) (λ y. product_of (entry_value g.kind (place_of y) (place_of (bits_at c g.on))) (run gates (basis_state (with_bits c g.on y)) x))
+    ≡ sum_over (all_lists (length (qubits_of g))) (λ y. product_of (entry_value (length g.extra) g.kind (place_of y) (place_of (bits_at c (qubits_of g)))) (run gates (basis_state (with_bits c (qubits_of g) y)) x))
 gate_before n g gates c x on lc lx =
-    let e = λ (y : List Bool). entry_value g.kind (place_of y) (place_of (bits_at c g.on)) in
-    let all = all_lists (length g.on) in
-    run-same gates (applied g (basis_state c)) (λ z. sum_over all (λ y. product_of (e y) (basis_state (with_bits c g.on y) z))) x (λ z len. column n g c z on lc (len ∙ lx))
-    ∙ run-sum_over gates all (λ y z. product_of (e y) (basis_state (with_bits c g.on y) z)) x
-    ∙ sum_over-same all _ _ (λ y. run-scaled gates (e y) (basis_state (with_bits c g.on y)) x)
+    let e = λ (y : List Bool). entry_value (length g.extra) g.kind (place_of y) (place_of (bits_at c (qubits_of g))) in
+    let all = all_lists (length (qubits_of g)) in
+    run-same gates (applied g (basis_state c)) (λ z. sum_over all (λ y. product_of (e y) (basis_state (with_bits c (qubits_of g) y) z))) x (λ z len. column n g c z on lc (len ∙ lx))
+    ∙ run-sum_over gates all (λ y z. product_of (e y) (basis_state (with_bits c (qubits_of g) y) z)) x
+    ∙ sum_over-same all _ _ (λ y. run-scaled gates (e y) (basis_state (with_bits c (qubits_of g) y)) x)
 
 -- ---- conjugates
 conjugate-sum_over : (xs : List (List Bool)) (f : List Bool → Quad) → conjugate_of (sum_over xs f) ≡ sum_over xs (λ x. conjugate_of (f x))
@@ -117,18 +117,19 @@ adjoint_run n [] r c all lr lc = conjugate-basis r c
 adjoint_run n (g ∷ gates) r c all lr lc =
     let (on, rest) = heads n g gates all in
     let k = g.kind in
-    let lists = all_lists (length g.on) in
-    let size : 2 ^ length g.on ≡ 2 ^ arity_of k = ap (λ m. 2 ^ m) on.placed.count in
-    let small : (z : List Bool) → length z ≡ length g.on → place_of z < 2 ^ arity_of k = λ z lz. subst (λ m. place_of z < m) (ap (λ m. 2 ^ m) lz ∙ size) (place_of-below z) in
-    let row = bits_at r g.on in
+    let lists = all_lists (length (qubits_of g)) in
+    let m = length g.extra in
+    let size : 2 ^ length (qubits_of g) ≡ 2 ^ (m + arity_of k) = ap (λ n. 2 ^ n) (qubit_count n g on) in
+    let small : (z : List Bool) → length z ≡ length (qubits_of g) → place_of z < 2 ^ (m + arity_of k) = λ z lz. subst (λ i. place_of z < i) (ap (λ i. 2 ^ i) lz ∙ size) (place_of-below z) in
+    let row = bits_at r (qubits_of g) in
     ap (λ l. run l (basis_state c) r) (inverse_gates-cons g gates)
     ∙ ap (λ u. u r) (run-append (inverse_gates gates) (inverse_gate g ∷ []) (basis_state c))
     ∙ applied-terms (inverse_gate g) (run (inverse_gates gates) (basis_state c)) r
-    ∙ sum_over_lists-same (length g.on) _ _
+    ∙ sum_over_lists-same (length (qubits_of g)) _ _
     (λ y ly.
     ap₂ product_of
-    ((adjoint k).transposed (place_of row) (place_of y) (small row (length-bits_at r g.on)) (small y ly))
-    (adjoint_run n gates (with_bits r g.on y) c rest (length-with_bits r g.on y ∙ lr) lc)
-    ∙ sym (conjugate_of-product (entry_value k (place_of y) (place_of row)) (run gates (basis_state (with_bits r g.on y)) c)))
-    ∙ sym (conjugate-sum_over lists (λ y. product_of (entry_value k (place_of y) (place_of row)) (run gates (basis_state (with_bits r g.on y)) c)))
+    ((adjoint m k on.placed.power).transposed (place_of row) (place_of y) (small row (length-bits_at r (qubits_of g))) (small y ly))
+    (adjoint_run n gates (with_bits r (qubits_of g) y) c rest (length-with_bits r (qubits_of g) y ∙ lr) lc)
+    ∙ sym (conjugate_of-product (entry_value m k (place_of y) (place_of row)) (run gates (basis_state (with_bits r (qubits_of g) y)) c)))
+    ∙ sym (conjugate-sum_over lists (λ y. product_of (entry_value m k (place_of y) (place_of row)) (run gates (basis_state (with_bits r (qubits_of g) y)) c)))
     ∙ ap conjugate_of (sym (gate_before n g gates r c on lr lc))

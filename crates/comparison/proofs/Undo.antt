@@ -1,5 +1,5 @@
 -- A gate and its inverse undo each other.
-use Rattle.std.proofs.Common.{◌≡◌, ℕ, suc, ◌+◌, ◌*◌, ◌^◌, ◌<◌, refl, sym, ◌∙◌, ap, subst, Bool, true, false, cond, nat_eq, List, [], ◌∷◌, ◌++◌, length, map, reverse, All, arith}
+use Rattle.std.proofs.Common.{◌≡◌, ℕ, zero, suc, ◌+◌, ◌*◌, ◌^◌, ◌<◌, refl, sym, ◌∙◌, ap, subst, Bool, true, false, cond, nat_eq, List, [], ◌∷◌, ◌++◌, length, length-append, map, reverse, All, arith}
 use Rattle.std.proofs.Math.Path.{ap₂}
 use Rattle.std.proofs.lemmas.List.{reverse-append, map-append}
 use Rattle.std.proofs.lemmas.List.Sums.{fold-append, sum_by_push, sum_by-cons}
@@ -14,13 +14,13 @@ use Rattle.bit_lists.proofs.Places.{place_of-below}
 use Rattle.bit_lists.proofs.OrderLemmas.{same_place}
 use Rattle.gate_set.specs.declared.gate.Gate.{Gate}
 use Rattle.gate_set.specs.declared.kind.Kind.{Kind}
-use Rattle.gate_set.specs.declared.kind.Kind.TheVariants.{Id, X, Y, Z, H, S, Sdg, T, Tdg, RxP, RxM, RyP, RyM, Cx, Cz, Swap, Ccx, Cswap}
-use Rattle.gate_set.specs.Matrix.{arity_of, half_power_of, inverse_of}
-use Rattle.gate_set.specs.Shape.{IsOn}
+use Rattle.gate_set.specs.declared.kind.Kind.TheVariants.{Id, X, Y, Z, H, S, Sdg, T, Tdg, RxP, RxM, RyP, RyM, Cx, Cz, Swap, Ccx, Cswap, Phase}
+use Rattle.gate_set.specs.Matrix.{arity_of, half_power_of, inverse_of, IsKind}
+use Rattle.gate_set.specs.Shape.{IsOn, qubits_of}
 use Rattle.gate_set.specs.Circuits.{inverse_gate, inverse_gates}
 use Rattle.gate_set.specs.Unitary.{entry_value, sum_below, row_product, identity_entry}
-use Rattle.gate_set.proofs.MatrixLemmas.{arity_of-inverse_of, IsOn-inverse}
-use Rattle.gate_set.proofs.UnitaryLemmas.{unitary, adjoint}
+use Rattle.gate_set.proofs.MatrixLemmas.{arity_of-inverse_of, IsKind-inverse, IsOn-inverse}
+use Rattle.gate_set.proofs.UnitaryLemmas.{unitary, adjoint, halves}
 use Rattle.circuit_model.specs.Product.{sum_over, applied, same_bits, exponent}
 use Rattle.circuit_model.proofs.SumLemmas.{sum_over-same, length-bits_at}
 use Rattle.circuit_model.proofs.VectorLemmas.{applied-same, same_bits-refl, same_bits-true}
@@ -29,44 +29,54 @@ use Rattle.comparison.proofs.Linear.{term, applied-terms, run, run-same, run-sca
 use Rattle.comparison.proofs.Bits.{AreApart, apart, with_bits-twice, bits_at-with_bits, with_bits-bits_at}
 
 -- ---- inverses of inverses
-pub inverse_of-twice : (k : Kind) → inverse_of (inverse_of k) ≡ k
-inverse_of-twice Id = refl
-inverse_of-twice X = refl
-inverse_of-twice Y = refl
-inverse_of-twice Z = refl
-inverse_of-twice H = refl
-inverse_of-twice S = refl
-inverse_of-twice Sdg = refl
-inverse_of-twice T = refl
-inverse_of-twice Tdg = refl
-inverse_of-twice RxP = refl
-inverse_of-twice RxM = refl
-inverse_of-twice RyP = refl
-inverse_of-twice RyM = refl
-inverse_of-twice Cx = refl
-inverse_of-twice Cz = refl
-inverse_of-twice Swap = refl
-inverse_of-twice Ccx = refl
-inverse_of-twice Cswap = refl
+pub inverse_of-twice : (k : Kind) → IsKind k → inverse_of (inverse_of k) ≡ k
+inverse_of-twice Id h = refl
+inverse_of-twice X h = refl
+inverse_of-twice Y h = refl
+inverse_of-twice Z h = refl
+inverse_of-twice H h = refl
+inverse_of-twice S h = refl
+inverse_of-twice Sdg h = refl
+inverse_of-twice T h = refl
+inverse_of-twice Tdg h = refl
+inverse_of-twice RxP h = refl
+inverse_of-twice RxM h = refl
+inverse_of-twice RyP h = refl
+inverse_of-twice RyM h = refl
+inverse_of-twice Cx h = refl
+inverse_of-twice Cz h = refl
+inverse_of-twice Swap h = refl
+inverse_of-twice Ccx h = refl
+inverse_of-twice Cswap h = refl
+inverse_of-twice (Phase zero) h = refl
+inverse_of-twice (Phase (suc zero)) h = refl
+inverse_of-twice (Phase (suc (suc zero))) h = refl
+inverse_of-twice (Phase (suc (suc (suc zero)))) h = refl
+inverse_of-twice (Phase (suc (suc (suc (suc zero))))) h = refl
+inverse_of-twice (Phase (suc (suc (suc (suc (suc zero)))))) h = refl
+inverse_of-twice (Phase (suc (suc (suc (suc (suc (suc zero))))))) h = refl
+inverse_of-twice (Phase (suc (suc (suc (suc (suc (suc (suc zero)))))))) h = refl
+inverse_of-twice (Phase (suc (suc (suc (suc (suc (suc (suc (suc j))))))))) h = absurd (omega (arith, h))
 
-pub inverse_gate-twice : (g : Gate) → inverse_gate (inverse_gate g) ≡ g
-inverse_gate-twice g = let again : Kind → Gate = λ k. record { kind = k; on = g.on } in ap again (inverse_of-twice g.kind)
+pub inverse_gate-twice : (g : Gate) → IsKind g.kind → inverse_gate (inverse_gate g) ≡ g
+inverse_gate-twice g h = let again : Kind → Gate = λ k. record { kind = k; on = g.on; extra = g.extra } in ap again (inverse_of-twice g.kind h)
 
 -- ---- the matrix of the inverse kind times the matrix
-pub inverse-times : (k : Kind) (r s : ℕ) → r < 2 ^ arity_of k → s < 2 ^ arity_of k
-    → sum_below (2 ^ arity_of k) (λ y. product_of (entry_value (inverse_of k) r y) (entry_value k y s)) ≡ cond (nat_eq r s) (times_power root_of_two (2 * half_power_of k) one_quad) zero_quad
+pub inverse-times : (m : ℕ) (k : Kind) (r s : ℕ) → IsKind k → r < 2 ^ (m + arity_of k) → s < 2 ^ (m + arity_of k)
+    → sum_below (2 ^ (m + arity_of k)) (λ y. product_of (entry_value m (inverse_of k) r y) (entry_value m k y s)) ≡ cond (nat_eq r s) (times_power root_of_two (2 * half_power_of k) one_quad) zero_quad
 unfolding row_product identity_entry
-inverse-times k r s lr ls =
+inverse-times m k r s h lr ls =
     let l = inverse_of k in
-    let size : 2 ^ arity_of l ≡ 2 ^ arity_of k = ap (λ n. 2 ^ n) (arity_of-inverse_of k) in
-    let adjoint_l = adjoint l in
-    sum_below-same (2 ^ arity_of k) _ _
+    let hl : IsKind l = IsKind-inverse k in
+    let size : 2 ^ (m + arity_of l) ≡ 2 ^ (m + arity_of k) = ap (λ n. 2 ^ (m + n)) (arity_of-inverse_of k) in
+    let adjoint_l = adjoint m l hl in
+    sum_below-same (2 ^ (m + arity_of k)) _ _
     (λ y lt.
-    ap (λ m. product_of (entry_value l r y) (entry_value m y s)) (sym (inverse_of-twice k))
-    ∙ ap (product_of (entry_value l r y)) (adjoint_l.transposed y s (subst (λ n. y < n) (sym size) lt) (subst (λ n. s < n) (sym size) ls)))
-    ∙ ap (λ n. sum_below n (λ y. product_of (entry_value l r y) (conjugate_of (entry_value l s y)))) (sym size)
-    ∙ unitary l r s (subst (λ n. r < n) (sym size) lr) (subst (λ n. s < n) (sym size) ls)
-    ∙ ap (λ h. cond (nat_eq r s) (times_power root_of_two (2 * h) one_quad) zero_quad) (adjoint k).same_half_power
+    ap (λ i. product_of (entry_value m l r y) (entry_value m i y s)) (sym (inverse_of-twice k h))
+    ∙ ap (product_of (entry_value m l r y)) (adjoint_l.transposed y s (subst (λ n. y < n) (sym size) lt) (subst (λ n. s < n) (sym size) ls)))
+    ∙ ap (λ n. sum_below n (λ y. product_of (entry_value m l r y) (conjugate_of (entry_value m l s y)))) (sym size)
+    ∙ unitary m l hl r s (subst (λ n. r < n) (sym size) lr) (subst (λ n. s < n) (sym size) ls)
+    ∙ ap (λ i. cond (nat_eq r s) (times_power root_of_two (2 * i) one_quad) zero_quad) (adjoint m k h).same_half_power
 
 -- ---- equal places
 pub Decides-same_bits : (x y : List Bool) → Decides (same_bits x y) (x ≡ y)
@@ -83,61 +93,65 @@ chosen-product true p q = refl
 chosen-product false p q = zero-product_of q
 
 -- ---- one gate
-pub apart_of : (n : ℕ) (g : Gate) → IsOn n g → AreApart n g.on
-apart_of n g on = apart n g.on on.below on.placed.different
+pub qubit_count : (n : ℕ) (g : Gate) → IsOn n g → length (qubits_of g) ≡ length g.extra + arity_of g.kind
+qubit_count n g on = length-append g.extra g.on ∙ ap (λ i. length g.extra + i) on.placed.count
+
+pub apart_of : (n : ℕ) (g : Gate) → IsOn n g → AreApart n (qubits_of g)
+apart_of n g on = apart n (qubits_of g) on.below on.placed.different
 
 -- a gate's terms after another gate on the same qubits
-terms_after : (n : ℕ) (g : Gate) (v : List Bool → Quad) (x y : List Bool) → length x ≡ n → AreApart n g.on → length y ≡ length g.on
-    → applied g v (with_bits x g.on y) ≡ sum_over (all_lists (length g.on)) (λ z. product_of (entry_value g.kind (place_of y) (place_of z)) (v (with_bits x g.on z)))
+terms_after : (n : ℕ) (g : Gate) (v : List Bool → Quad) (x y : List Bool) → length x ≡ n → AreApart n (qubits_of g) → length y ≡ length (qubits_of g)
+    → applied g v (with_bits x (qubits_of g) y) ≡ sum_over (all_lists (length (qubits_of g))) (λ z. product_of (entry_value (length g.extra) g.kind (place_of y) (place_of z)) (v (with_bits x (qubits_of g) z)))
 unfolding term
 terms_after n g v x y len a ly =
-    applied-terms g v (with_bits x g.on y)
-    ∙ sum_over_lists-same (length g.on) _ _
+    applied-terms g v (with_bits x (qubits_of g) y)
+    ∙ sum_over_lists-same (length (qubits_of g)) _ _
     (λ z lz.
-    ap₂ (λ l m. product_of (entry_value g.kind (place_of l) (place_of z)) (v m)) (bits_at-with_bits n x g.on y len a ly) (with_bits-twice n x g.on y z a ly lz))
+    ap₂ (λ l m. product_of (entry_value (length g.extra) g.kind (place_of l) (place_of z)) (v m)) (bits_at-with_bits n x (qubits_of g) y len a ly) (with_bits-twice n x (qubits_of g) y z a ly lz))
 
 -- the inverse gate undoes the gate, but for the factors 1/√2 that both leave out
 pub undo_gate : (n : ℕ) (g : Gate) (v : List Bool → Quad) (x : List Bool) → length x ≡ n → IsOn n g
     → applied (inverse_gate g) (applied g v) x ≡ times_power root_of_two (2 * half_power_of g.kind) (v x)
 unfolding term
 undo_gate n g v x len on =
+    let m = length g.extra in
     let k = g.kind in
     let l = inverse_of k in
-    let all = all_lists (length g.on) in
+    let all = all_lists (length (qubits_of g)) in
     let a = apart_of n g on in
-    let r = bits_at x g.on in
-    let lr : length r ≡ length g.on = length-bits_at x g.on in
-    let size : 2 ^ length g.on ≡ 2 ^ arity_of k = ap (λ m. 2 ^ m) on.placed.count in
-    let f : List Bool → Quad = λ z. v (with_bits x g.on z) in
+    let r = bits_at x (qubits_of g) in
+    let lr : length r ≡ length (qubits_of g) = length-bits_at x (qubits_of g) in
+    let size : 2 ^ length (qubits_of g) ≡ 2 ^ (m + arity_of k) = ap (λ n. 2 ^ n) (qubit_count n g on) in
+    let f : List Bool → Quad = λ z. v (with_bits x (qubits_of g) z) in
     let root = times_power root_of_two (2 * half_power_of k) one_quad in
-    let small : (z : List Bool) → length z ≡ length g.on → place_of z < 2 ^ arity_of k = λ z lz. subst (λ m. place_of z < m) (ap (λ m. 2 ^ m) lz ∙ size) (place_of-below z) in
+    let small : (z : List Bool) → length z ≡ length (qubits_of g) → place_of z < 2 ^ (m + arity_of k) = λ z lz. subst (λ n. place_of z < n) (ap (λ n. 2 ^ n) lz ∙ size) (place_of-below z) in
     applied-terms (inverse_gate g) (applied g v) x
-    ∙ sum_over_lists-same (length g.on) _ _
+    ∙ sum_over_lists-same (length (qubits_of g)) _ _
     (λ y ly.
-    ap (product_of (entry_value l (place_of r) (place_of y))) (terms_after n g v x y len a ly)
-    ∙ product-sum_over (entry_value l (place_of r) (place_of y)) all (λ z. product_of (entry_value k (place_of y) (place_of z)) (f z)))
-    ∙ sum_over-exchange all all (λ y z. product_of (entry_value l (place_of r) (place_of y)) (product_of (entry_value k (place_of y) (place_of z)) (f z)))
-    ∙ sum_over_lists-same (length g.on) _ _
+    ap (product_of (entry_value m l (place_of r) (place_of y))) (terms_after n g v x y len a ly)
+    ∙ product-sum_over (entry_value m l (place_of r) (place_of y)) all (λ z. product_of (entry_value m k (place_of y) (place_of z)) (f z)))
+    ∙ sum_over-exchange all all (λ y z. product_of (entry_value m l (place_of r) (place_of y)) (product_of (entry_value m k (place_of y) (place_of z)) (f z)))
+    ∙ sum_over_lists-same (length (qubits_of g)) _ _
     (λ z lz.
-    sum_over-same all _ _ (λ y. sym (product_of-assoc (entry_value l (place_of r) (place_of y)) (entry_value k (place_of y) (place_of z)) (f z)))
-    ∙ sym (sum_over-product all (λ y. product_of (entry_value l (place_of r) (place_of y)) (entry_value k (place_of y) (place_of z))) (f z))
+    sum_over-same all _ _ (λ y. sym (product_of-assoc (entry_value m l (place_of r) (place_of y)) (entry_value m k (place_of y) (place_of z)) (f z)))
+    ∙ sym (sum_over-product all (λ y. product_of (entry_value m l (place_of r) (place_of y)) (entry_value m k (place_of y) (place_of z))) (f z))
     ∙ ap (λ q. product_of q (f z))
-    (sum_over-places (length g.on) (λ j. product_of (entry_value l (place_of r) j) (entry_value k j (place_of z)))
-    ∙ ap (λ m. sum_below m (λ j. product_of (entry_value l (place_of r) j) (entry_value k j (place_of z)))) size
-    ∙ inverse-times k (place_of r) (place_of z) (small r lr) (small z lz)
+    (sum_over-places (length (qubits_of g)) (λ j. product_of (entry_value m l (place_of r) j) (entry_value m k j (place_of z)))
+    ∙ ap (λ n. sum_below n (λ j. product_of (entry_value m l (place_of r) j) (entry_value m k j (place_of z)))) size
+    ∙ inverse-times m k (place_of r) (place_of z) on.placed.power (small r lr) (small z lz)
     ∙ ap (λ b. cond b root zero_quad) (same_bits-places r z (lr ∙ sym lz)))
     ∙ chosen-product (same_bits r z) root (f z))
-    ∙ pick (length g.on) r (λ z. product_of root (f z)) lr
-    ∙ ap (λ y. product_of root (v y)) (with_bits-bits_at x g.on)
+    ∙ pick (length (qubits_of g)) r (λ z. product_of root (f z)) lr
+    ∙ ap (λ y. product_of root (v y)) (with_bits-bits_at x (qubits_of g))
     ∙ product_of-comm root (v x) ∙ sym (times_power-factor root_of_two (2 * half_power_of k) (v x))
 
 -- and the gate undoes its inverse
 pub redo_gate : (n : ℕ) (g : Gate) (v : List Bool → Quad) (x : List Bool) → length x ≡ n → IsOn n g
     → applied g (applied (inverse_gate g) v) x ≡ times_power root_of_two (2 * half_power_of g.kind) (v x)
 redo_gate n g v x len on =
-    ap (λ h. applied h (applied (inverse_gate g) v) x) (sym (inverse_gate-twice g))
+    ap (λ h. applied h (applied (inverse_gate g) v) x) (sym (inverse_gate-twice g on.placed.power))
     ∙ undo_gate n (inverse_gate g) v x len (IsOn-inverse n g on)
-    ∙ ap (λ h. times_power root_of_two (2 * h) (v x)) (adjoint g.kind).same_half_power
+    ∙ ap (λ h. times_power root_of_two (2 * h) (v x)) (halves g.kind)
 
 -- ---- a run of gates
 pub inverse_gates-cons : (g : Gate) (gates : List Gate) → inverse_gates (g ∷ gates) ≡ inverse_gates gates ++ inverse_gate g ∷ []
@@ -151,7 +165,7 @@ exponent-inverse_gates [] = refl
 exponent-inverse_gates (g ∷ gates) =
     let h = λ (g : Gate). half_power_of g.kind in
     ap exponent (inverse_gates-cons g gates) ∙ sum_by_push h (inverse_gates gates) (inverse_gate g)
-    ∙ omega (arith, exponent-inverse_gates gates, (adjoint g.kind).same_half_power, sum_by-cons h g gates)
+    ∙ omega (arith, exponent-inverse_gates gates, halves g.kind, sum_by-cons h g gates)
 
 pub run-append : (gates more : List Gate) (v : List Bool → Quad) → run (gates ++ more) v ≡ run more (run gates v)
 run-append gates more v = fold-append (λ u g. applied g u) v gates more

@@ -8,11 +8,11 @@ use Rattle.std.proofs.lemmas.List.Sums.{fold-append, sum_by_push, sum_by-cons}
 use Rattle.ring_omega.specs.declared.quad.Quad.{Quad}
 use Rattle.ring_omega.specs.Ring.{one_quad, product_of, times_power, root_of_two}
 use Rattle.ring_omega.specs.Value.{SameValue}
-use Rattle.ring_omega.proofs.LowestLemmas.{times_power-add}
+use Rattle.ring_omega.proofs.LowestLemmas.{times_power-product_of, times_power-add}
 use Rattle.bit_lists.specs.Lists.{all_lists, place_of, bits_at, with_bits}
 use Rattle.gate_set.specs.declared.gate.Gate.{Gate}
-use Rattle.gate_set.specs.Matrix.{entry_of, times_entry, half_power_of}
-use Rattle.gate_set.specs.Shape.{IsOn}
+use Rattle.gate_set.specs.Matrix.{times_entry, half_power_of}
+use Rattle.gate_set.specs.Shape.{IsOn, qubits_of, gate_entry}
 use Rattle.gate_set.specs.Circuits.{inverse_gate, inverse_gates}
 use Rattle.gate_set.proofs.MatrixLemmas.{IsOn-inverse}
 use Rattle.circuit_model.specs.Product.{basis_state, amp, exponent}
@@ -29,7 +29,7 @@ use Rattle.comparison.proofs.Undo.{heads, inverse_gates-cons, rooted-run, run-ap
 use Rattle.comparison.proofs.Columns.{gate_before}
 use Rattle.comparison.proofs.ScalarTest.{rooted-sum_over}
 use Rattle.gate_set.specs.declared.entry.Entry.{Entry}
-use Rattle.gate_set.specs.declared.entry.Entry.TheVariants.{Zero, Omega}
+use Rattle.gate_set.specs.declared.entry.Entry.TheVariants.{Zero, Omega, Root2}
 use Rattle.ring_omega.specs.Ring.{omega_unit}
 use Rattle.ring_omega.proofs.RingLaws.{times_power-zero, times_power-exchange}
 
@@ -42,20 +42,21 @@ pub times_step-same : (n : ℕ) (s : Step) (a b : Matrix) (r c : List Bool) → 
 unfolding right_product
 times_step-same n (left g) a b r c h lr lc = applied-same g (λ s. a s c) (λ s. b s c) r (λ y ly. h y c (ly ∙ lr) lc)
 times_step-same n (right g) a b r c h lr lc =
-    sum_over-same (all_lists (length g.on)) _ _
-    (λ y. ap (times_entry (entry_of g.kind (place_of y) (place_of (bits_at c g.on)))) (h r (with_bits c g.on y) lr (length-with_bits c g.on y ∙ lc)))
+    sum_over-same (all_lists (length (qubits_of g))) _ _
+    (λ y. ap (times_entry (gate_entry g (place_of y) (place_of (bits_at c (qubits_of g))))) (h r (with_bits c (qubits_of g) y) lr (length-with_bits c (qubits_of g) y ∙ lc)))
 
 times_entry-rooted : (m : ℕ) (e : Entry) (q : Quad) → roots m (times_entry e q) ≡ times_entry e (roots m q)
 times_entry-rooted m Zero q = times_power-zero root_of_two m
 times_entry-rooted m (Omega j) q = times_power-exchange root_of_two omega_unit m j q
+times_entry-rooted m Root2 q = times_power-product_of root_of_two m q
 
 times_step-rooted : (m : ℕ) (s : Step) (a : Matrix) (r c : List Bool) → roots m (times_step s a r c) ≡ times_step s (λ r c. roots m (a r c)) r c
 unfolding right_product
 times_step-rooted m (left g) a r c = sym (rooted-run m (g ∷ []) (λ s. a s c) r)
 times_step-rooted m (right g) a r c =
-    rooted-sum_over m (all_lists (length g.on)) (λ y. times_entry (entry_of g.kind (place_of y) (place_of (bits_at c g.on))) (a r (with_bits c g.on y)))
-    ∙ sum_over-same (all_lists (length g.on)) _ _
-    (λ y. times_entry-rooted m (entry_of g.kind (place_of y) (place_of (bits_at c g.on))) (a r (with_bits c g.on y)))
+    rooted-sum_over m (all_lists (length (qubits_of g))) (λ y. times_entry (gate_entry g (place_of y) (place_of (bits_at c (qubits_of g)))) (a r (with_bits c (qubits_of g) y)))
+    ∙ sum_over-same (all_lists (length (qubits_of g))) _ _
+    (λ y. times_entry-rooted m (gate_entry g (place_of y) (place_of (bits_at c (qubits_of g)))) (a r (with_bits c (qubits_of g) y)))
 
 -- ---- the gates whose product the matrix is
 abbrev with_step : List Gate → Step → List Gate
@@ -73,10 +74,10 @@ step-product n (left g) gates r c on lr lc =
     ∙ ap (λ u. u r) (sym (run-append gates (g ∷ []) (basis_state c)))
     ∙ sym (amp-run (gates ++ g ∷ []) c r)
 step-product n (right g) gates r c on lr lc =
-    sum_over-same (all_lists (length g.on)) _ _
+    sum_over-same (all_lists (length (qubits_of g))) _ _
     (λ y.
-    times_entry-product (entry_of g.kind (place_of y) (place_of (bits_at c g.on))) (amp gates (with_bits c g.on y) r)
-    ∙ ap (product_of (times_entry (entry_of g.kind (place_of y) (place_of (bits_at c g.on))) one_quad)) (amp-run gates (with_bits c g.on y) r))
+    times_entry-product (gate_entry g (place_of y) (place_of (bits_at c (qubits_of g)))) (amp gates (with_bits c (qubits_of g) y) r)
+    ∙ ap (product_of (times_entry (gate_entry g (place_of y) (place_of (bits_at c (qubits_of g)))) one_quad)) (amp-run gates (with_bits c (qubits_of g) y) r))
     ∙ sym (gate_before n g gates c r on lc lr)
     ∙ sym (amp-run (g ∷ gates) c r)
 

@@ -3,11 +3,11 @@
 use Rattle.std.specs.Prelude.{ℕ, ◌+◌, ◌++◌, Bool, List, length, fold, take, drop}
 use Rattle.ring_omega.specs.declared.quad.Quad.{Quad}
 use Rattle.ring_omega.specs.Ring.{one_quad}
-use Rattle.bit_lists.specs.Lists.{all_lists, place_of, bits_at, with_bits}
 use Rattle.gate_set.specs.declared.gate.Gate.{Gate}
-use Rattle.gate_set.specs.Matrix.{entry_of, times_entry, half_power_of}
+use Rattle.gate_set.specs.Matrix.{half_power_of}
+use Rattle.gate_set.specs.Shape.{qubits_of, gate_entry}
 use Rattle.circuit_model.specs.Prefixes.{AtEach, IsFirstFailing}
-use Rattle.circuit_model.specs.Product.{sum_over, applied}
+use Rattle.circuit_model.specs.Product.{entries_product, applied}
 use Rattle.circuit_model.specs.Working.{Scaled, scaled, halved, FitsWidth}
 use Rattle.comparison.specs.Scalars.{Matrix, scalar_entry}
 
@@ -15,11 +15,9 @@ use Rattle.comparison.specs.Scalars.{Matrix, scalar_entry}
 abbrev pub left_product : Gate → Matrix → Matrix
 left_product g m r c = applied g (λ s. m s c) r
 
--- M·G: at (r, c) the sum over all values y of the gate's qubits
+-- M·G: each row is a vector that the transposed matrix is applied to
 unfoldable pub right_product : Gate → Matrix → Matrix
-right_product g m r c =
-    sum_over (all_lists (length g.on))
-    (λ y. times_entry (entry_of g.kind (place_of y) (place_of (bits_at c g.on))) (m r (with_bits c g.on y)))
+right_product g m r c = entries_product (λ row col. gate_entry g col row) (qubits_of g) (m r) c
 
 -- a step: multiplication by a gate's matrix from the left or from the right
 pub data Step : Type 0 where

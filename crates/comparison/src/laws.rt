@@ -85,13 +85,13 @@ pub fn order_of_steps()
 
 /// Matrices of small circuits: x z against z x, t against tdg, h s h against a quarter turn about x, and x against nothing.
 pub fn small_matrices()
-    ensures xz_against_zx { corner 1 (compared (record { kind = Kind.X; on = 0 ∷ [] } ∷ record { kind = Kind.Z; on = 0 ∷ [] } ∷ [])
-        (record { kind = Kind.Z; on = 0 ∷ [] } ∷ record { kind = Kind.X; on = 0 ∷ [] } ∷ [])) ≡ quad (pos 0) (pos 0) (pos 0) (negsuc 0) }
-    ensures t_against_tdg { compared (record { kind = Kind.T; on = 0 ∷ [] } ∷ []) (record { kind = Kind.Tdg; on = 0 ∷ [] } ∷ []) (true ∷ []) (true ∷ []) ≡ quad (pos 0) (pos 1) (pos 0) (pos 0) }
-    ensures its_corner { corner 1 (compared (record { kind = Kind.T; on = 0 ∷ [] } ∷ []) (record { kind = Kind.Tdg; on = 0 ∷ [] } ∷ [])) ≡ one_quad }
-    ensures hsh_against_rx { lowest_form (corner 1 (compared (record { kind = Kind.H; on = 0 ∷ [] } ∷ record { kind = Kind.S; on = 0 ∷ [] } ∷ record { kind = Kind.H; on = 0 ∷ [] } ∷ [])
-        (record { kind = Kind.RxP; on = 0 ∷ [] } ∷ []))) 3 ≡ (quad (pos 0) (pos 0) (pos 1) (pos 0), 0) }
-    ensures x_against_nothing { compared (record { kind = Kind.X; on = 0 ∷ [] } ∷ []) [] (false ∷ []) (true ∷ []) ≡ one_quad }
+    ensures xz_against_zx { corner 1 (compared (record { kind = Kind.X; on = 0 ∷ []; extra = [] } ∷ record { kind = Kind.Z; on = 0 ∷ []; extra = [] } ∷ [])
+        (record { kind = Kind.Z; on = 0 ∷ []; extra = [] } ∷ record { kind = Kind.X; on = 0 ∷ []; extra = [] } ∷ [])) ≡ quad (pos 0) (pos 0) (pos 0) (negsuc 0) }
+    ensures t_against_tdg { compared (record { kind = Kind.T; on = 0 ∷ []; extra = [] } ∷ []) (record { kind = Kind.Tdg; on = 0 ∷ []; extra = [] } ∷ []) (true ∷ []) (true ∷ []) ≡ quad (pos 0) (pos 1) (pos 0) (pos 0) }
+    ensures its_corner { corner 1 (compared (record { kind = Kind.T; on = 0 ∷ []; extra = [] } ∷ []) (record { kind = Kind.Tdg; on = 0 ∷ []; extra = [] } ∷ [])) ≡ one_quad }
+    ensures hsh_against_rx { lowest_form (corner 1 (compared (record { kind = Kind.H; on = 0 ∷ []; extra = [] } ∷ record { kind = Kind.S; on = 0 ∷ []; extra = [] } ∷ record { kind = Kind.H; on = 0 ∷ []; extra = [] } ∷ [])
+        (record { kind = Kind.RxP; on = 0 ∷ []; extra = [] } ∷ []))) 3 ≡ (quad (pos 0) (pos 0) (pos 1) (pos 0), 0) }
+    ensures x_against_nothing { compared (record { kind = Kind.X; on = 0 ∷ []; extra = [] } ∷ []) [] (false ∷ []) (true ∷ []) ≡ one_quad }
 {
     let _ = Kind::H;
 }

@@ -49,13 +49,13 @@ pub fn next_turn(alloc: Global, us: &[Gate], vs: &[Gate], i: usize, j: usize) ->
         let gate = &us[i];
         Turn {
             side: Side::Left,
-            gate: Gate::new(alloc, gate.kind(), gate.on()),
+            gate: gate.copied(alloc),
         }
     } else {
         let gate = &vs[j];
         Turn {
             side: Side::Right,
-            gate: Gate::new(alloc, gate.kind(), gate.on()).inverse(),
+            gate: gate.copied(alloc).inverse(),
         }
     }
 }

@@ -18,7 +18,7 @@ use Rattle.qasm_reader.specs.declared.reason.Why.TheVariants.{BadByte, NoVersion
 use Rattle.qasm_reader.specs.Profile.{leaves}
 use Rattle.qasm_reader.specs.Parts.{Has}
 use Rattle.qasm_reader.specs.Acts.{Act, Register, Target, registers, measured, gates, qubit_count, targets, wholes, qubits_at, up_to, placed, product}
-use Rattle.qasm_reader.specs.Calls.{Named, gate, builtin, one, Gives, plain, AreValues, Does}
+use Rattle.qasm_reader.specs.Calls.{Named, gate, plainly, builtin, one, Gives, plain, AreValues, Does}
 use Rattle.qasm_reader.specs.Reasons.{out_of_profile, unknown_name, redeclared, unknown_register, out_of_range, wrong_count, AreUnequal, DifferInSize, Repeats, Meets, AtSomePlace, FirstRefused, angles_of, IsOffGrid, called_in, Holds, IsFree, is_beyond, is_unknown, miscounts}
 use Rattle.qasm_reader.specs.Reading.{Accepts, AllAccepted}
 use Rattle.qasm_reader.specs.Private.Scope.{has_twice}
@@ -94,7 +94,7 @@ pub record Known (q : ℕ) (done : List GateOf) (before : List Act) : Type 0 whe
 pub record IsCall (q : ℕ) (c : Call) : Type 0 where
   pub name : is_name c.name ≡ true
   pub kept : leaves [] c.name ≡ false
-  pub gate : builtin c.name ≡ Some (gate (kind_in (builtin c.name)))
+  pub gate : builtin c.name ≡ Some (plainly (gate (kind_in (builtin c.name))))
   pub some : 0 < length c.on
   pub count : length c.on ≡ arity_of (kind_in (builtin c.name))
   pub below : AllByRecursion (λ i. i < q) c.on
@@ -156,27 +156,27 @@ pub no_call : IsOffGrid None [] → ⊥
 no_call g = let e = g.is in absurd (cc)
 
 -- a gate without angles does something
-plain_gives : (called : Named) (kind : Kind) (values : List Ratio) → called ≡ gate kind → AreValues [] values → Gives called values (one kind ∷ [])
-plain_gives called kind [] e v = plain kind e refl refl
+plain_gives : (called : Named) (kind : Kind) (values : List Ratio) → called ≡ plainly (gate kind) → AreValues [] values → Gives called values (one 0 kind ∷ [])
+plain_gives called kind [] e v = plain kind (ap (λ (n : Named). n.base) e) refl (ap (λ (n : Named). one n.controls kind ∷ []) (sym e))
 plain_gives called kind (f ∷ values) e v = absurd v
 
 same_named : (a b : Named) → Some a ≡ Some b → a ≡ b
 same_named a b e = cc
 
-on_grid : (named : Option Named) (kind : Kind) → named ≡ Some (gate kind) → IsOffGrid named [] → ⊥
-on_grid named kind e g = g.none (one kind ∷ []) (plain_gives g.called kind g.values (same_named g.called (gate kind) (sym g.is ∙ e)) g.valued)
+on_grid : (named : Option Named) (kind : Kind) → named ≡ Some (plainly (gate kind)) → IsOffGrid named [] → ⊥
+on_grid named kind e g = g.none (one 0 kind ∷ []) (plain_gives g.called kind g.values (same_named g.called (plainly (gate kind)) (sym g.is ∙ e)) g.valued)
 
 -- the gate of a kind
 abbrev pub one_gate : Kind → List ℕ → GateOf
-one_gate kind on = record { kind = kind; on = on }
+one_gate kind on = record { kind = kind; on = on; extra = [] }
 
 -- at one place a call makes one gate
-product_is : (kind : Kind) (on : List ℕ) → length on ≡ arity_of kind → product (one kind ∷ []) (map spot on) ≡ one_gate kind on ∷ []
+product_is : (kind : Kind) (on : List ℕ) → length on ≡ arity_of kind → product (one 0 kind ∷ []) (map spot on) ≡ one_gate kind on ∷ []
 product_is kind on count =
-    ap (λ w. gates_at (up_to (get_or w 0 1))) (wholes_none on) ∙ ap (λ qs. map (placed qs) (one kind ∷ [])) (qubits_are 0 on) ∙ placed_all kind 1 on count
+    ap (λ w. gates_at (up_to (get_or w 0 1))) (wholes_none on) ∙ ap (λ qs. map (placed qs) (one 0 kind ∷ [])) (qubits_are 0 on) ∙ placed_all 0 kind 1 on count
   where
     gates_at : List ℕ → List GateOf
-    gates_at all = flat_map (λ place. map (placed (qubits_at (map spot on) place)) (one kind ∷ [])) all
+    gates_at all = flat_map (λ place. map (placed (qubits_at (map spot on) place)) (one 0 kind ∷ [])) all
 
 -- what the arguments of a call mean
 call_means : (q : ℕ) (done : List GateOf) (before : List Act) (c : Call) → Known q done before → IsCall q c → targets (registers before) (map place_argument c.on) ≡ Some (map spot c.on)
@@ -188,9 +188,9 @@ same_targets a b e = cc
 -- what a call does
 call_does : (q : ℕ) (done : List GateOf) (before : List Act) (c : Call) → Known q done before → IsCall q c → Does before (line_statement c) (line_act c)
 call_does q done before c k h = record {
-  called = gate (kind_in (builtin c.name));
+  called = plainly (gate (kind_in (builtin c.name)));
   values = [];
-  items = one (kind_in (builtin c.name)) ∷ [];
+  items = one 0 (kind_in (builtin c.name)) ∷ [];
   on = map spot c.on;
   named = h.gate;
   valued = tt;
@@ -202,7 +202,7 @@ call_does q done before c k h = record {
 -- a call adds its gate
 call_gates : (q : ℕ) (done : List GateOf) (before : List Act) (c : Call) → Known q done before → IsCall q c → gates (before ++ line_act c ∷ []) ≡ done ++ gate_of c ∷ []
 call_gates q done before c k h =
-    gates_more before (line_act c) ∙ ap (λ l. l ++ product (one (kind_in (builtin c.name)) ∷ []) (map spot c.on)) k.gates
+    gates_more before (line_act c) ∙ ap (λ l. l ++ product (one 0 (kind_in (builtin c.name)) ∷ []) (map spot c.on)) k.gates
     ∙ ap (λ l. done ++ l) (product_is (kind_in (builtin c.name)) c.on h.count)
 
 -- one gate more

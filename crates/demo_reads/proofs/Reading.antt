@@ -18,7 +18,7 @@ use Rattle.qasm_forms.specs.Statements.{Statement, version, include, qubits, is_
 use Rattle.qasm_reader.specs.Profile.{leaves}
 use Rattle.qasm_reader.specs.Parts.{Has}
 use Rattle.qasm_reader.specs.Acts.{Act, nothing, declares, qubit_count, gates, measured, up_to, is_among, circuit_of}
-use Rattle.qasm_reader.specs.Calls.{gate, builtin, Does}
+use Rattle.qasm_reader.specs.Calls.{gate, plainly, based, builtin, Does}
 use Rattle.qasm_reader.specs.Reasons.{no_size}
 use Rattle.qasm_reader.specs.Private.Scope.{has_twice}
 use Rattle.qasm_reader.specs.Reading.{Accepts, AllAccepted, Reads, ReadsAs, circuit}
@@ -32,11 +32,11 @@ use Rattle.demo_reads.proofs.Lines.{all_at, drawn_below, kinds_few}
 record NameOk (bs : List ℕ) (n : ℕ) : Type 0 where
   name : is_name bs ≡ true
   kept : leaves [] bs ≡ false
-  gate : builtin bs ≡ Some (gate (kind_in (builtin bs)))
+  gate : builtin bs ≡ Some (plainly (gate (kind_in (builtin bs))))
   count : arity_of (kind_in (builtin bs)) ≡ n
 
 names_ok : (k : ℕ) → k < 13 → NameOk (name_at k) (arity k)
-unfolding name_at is_name builtin
+unfolding name_at is_name based builtin
 names_ok zero lt = record { name = refl; kept = refl; gate = refl; count = refl }
 names_ok (suc zero) lt = record { name = refl; kept = refl; gate = refl; count = refl }
 names_ok (suc (suc zero)) lt = record { name = refl; kept = refl; gate = refl; count = refl }
@@ -53,7 +53,7 @@ names_ok (suc (suc (suc (suc (suc (suc (suc (suc (suc (suc (suc (suc zero)))))))
 names_ok (suc (suc (suc (suc (suc (suc (suc (suc (suc (suc (suc (suc (suc k))))))))))))) lt = absurd (omega arith)
 
 h_ok : NameOk (codes "h") 1
-unfolding is_name builtin
+unfolding is_name based builtin
 h_ok = record { name = refl; kept = refl; gate = refl; count = refl }
 
 -- lists without repetition

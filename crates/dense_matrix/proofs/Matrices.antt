@@ -8,7 +8,7 @@ use Rattle.bit_lists.specs.Lists.{all_lists, place_of}
 use Rattle.bit_lists.proofs.Places.{place_of-zeros}
 use Rattle.gate_set.specs.declared.gate.Gate.{Gate}
 use Rattle.gate_set.specs.declared.kind.Kind.{Kind}
-use Rattle.gate_set.specs.declared.kind.Kind.TheVariants.{Id, X, Y, Z, H, S, Sdg, T, Tdg, RxP, RxM, RyP, RyM, Cx, Cz, Swap, Ccx, Cswap}
+use Rattle.gate_set.specs.declared.kind.Kind.TheVariants.{Id, X, Y, Z, H, S, Sdg, T, Tdg, RxP, RxM, RyP, RyM, Cx, Cz, Swap, Ccx, Cswap, Phase}
 use Rattle.gate_set.specs.Matrix.{half_power_of}
 use Rattle.gate_set.specs.Shape.{IsOn}
 use Rattle.gate_set.specs.Circuits.{inverse_gate}
@@ -69,6 +69,7 @@ half_power_of-small Cz = omega arith
 half_power_of-small Swap = omega arith
 half_power_of-small Ccx = omega arith
 half_power_of-small Cswap = omega arith
+half_power_of-small (Phase j) = omega arith
 
 -- a step raises the exponent by at most 1
 pub step_matrix-exponent : (n : ℕ) (w : Scaled) (s : Step) → (step_matrix n w s).exponent ≤ w.exponent + 1

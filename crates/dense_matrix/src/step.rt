@@ -2,19 +2,20 @@
 ghost use Rattle.std.specs.Prelude.{◌≡◌, ◌<◌, ◌≤◌, ◌^◌, ◌*◌, ◌+◌, ◌++◌, ◌↔◌, List, Bool, length, map, All, IsTrue};
 ghost use Rattle.ring_omega.specs.declared.quad.Quad.{Quad};
 ghost use Rattle.bit_lists.specs.Lists.{place_of, all_lists};
-ghost use Rattle.gate_set.specs.Matrix.{arity_of, IsReduced};
+ghost use Rattle.gate_set.specs.Matrix.{arity_of, IsPower};
 ghost use Rattle.gate_set.specs.Shape.{IsOn};
+ghost use Rattle.circuit_model.specs.Product.{sum_over};
 ghost use Rattle.circuit_model.specs.Vector.{at};
 ghost use Rattle.circuit_model.specs.Working.{FitsWidth};
 ghost use Rattle.quad_lists.specs.Sums.{quad_value};
 ghost use Rattle.comparison.specs.Products.{times_step, joined, by_position};
 ghost use Rattle.comparison.specs.Sides.{step_of};
-ghost use Rattle.dense_matrix.specs.Sides.{own, put, entry_on};
+ghost use Rattle.dense_matrix.specs.Sides.{own, put, entry_on, part};
 
 use crate::places::{column_place, joined_place, row_place};
 use comparison::Side;
 use gate_set::{Entry, Gate};
-use quad_lists::{Bounds, ExactQuad, place_with, row_of};
+use quad_lists::{Bounds, ExactQuad, all_set, place_with, row_of};
 use ring_omega::Quad;
 
 /// Writes the entries after the step into `next`, as long as their coefficients fit the width, and says whether all did. The entry in a
@@ -49,7 +50,8 @@ pub fn write_raw(
     true
 }
 
-// The entry after the step in one row and column.
+// The entry after the step in one row and column: that of the kind's matrix where all further controls are 1, and elsewhere the old one,
+// times √2 where the matrix leaves out a factor 1/√2.
 fn entry_after(
     state: &[Quad],
     qubits: u8,
@@ -65,6 +67,31 @@ fn entry_after(
     requires column { column < 2 ^ qubits }
     ensures { (r c : List Bool) → length r ≡ qubits → length c ≡ qubits → place_of r ≡ row → place_of c ≡ column
         → quad_value result ≡ times_step (step_of side gate.now) (by_position (at state.now)) r c }
+{
+    let here = own(side, row, column);
+    if all_set(qubits, here, gate.extra()) {
+        return block_after(state, qubits, side, gate, row, column);
+    }
+    let place = joined_place(qubits, row, column);
+    ExactQuad::entry_times(gate.beside(), state[place as usize])
+}
+
+// The entry after the kind's matrix in one row and column.
+fn block_after(
+    state: &[Quad],
+    qubits: u8,
+    side: Side,
+    gate: &Gate,
+    row: u128,
+    column: u128,
+) -> ExactQuad
+    requires small { qubits ≤ 6 }
+    requires size { length state.now ≡ 2 ^ (qubits + qubits) }
+    requires on { IsOn qubits gate.now }
+    requires row { row < 2 ^ qubits }
+    requires column { column < 2 ^ qubits }
+    ensures { (r c : List Bool) → length r ≡ qubits → length c ≡ qubits → place_of r ≡ row → place_of c ≡ column
+        → quad_value result ≡ sum_over (all_lists (length gate.now.on)) (part side gate.now state.now r c) }
 {
     let on = gate.on();
     let here = own(side, row, column);
@@ -95,11 +122,11 @@ fn entry_on(side: Side, gate: &Gate, bits: u8, y: u8) -> Entry
     requires bits { bits < 2 ^ arity_of gate.now.kind }
     requires y { y < 2 ^ arity_of gate.now.kind }
     ensures value { result ≡ entry_on side gate.now.kind bits y }
-    ensures reduced { IsReduced result }
+    ensures power { IsPower result }
 {
     match side {
-        Side::Left => gate.entry(bits, y),
-        Side::Right => gate.entry(y, bits),
+        Side::Left => gate.block_entry(bits, y),
+        Side::Right => gate.block_entry(y, bits),
     }
 }
 

@@ -12,7 +12,7 @@ use ring_omega::Quad;
 use std::alloc::Global;
 use std::test::Fail;
 
-const KINDS: [Kind; 18] = [
+const KINDS: [Kind; 22] = [
     Kind::H,
     Kind::T,
     Kind::RxP,
@@ -31,6 +31,10 @@ const KINDS: [Kind; 18] = [
     Kind::X,
     Kind::Z,
     Kind::Id,
+    Kind::Phase(1),
+    Kind::Phase(3),
+    Kind::Phase(6),
+    Kind::Phase(0),
 ];
 
 /// A number drawn by a linear congruential generator.
@@ -42,7 +46,7 @@ fn drawn(seed: &mut u32, below: u32) -> u32
     (*seed >> 8) % below
 }
 
-/// A gate of this kind on qubit `first` of three, or on it and the ones after it in turn.
+/// A gate of this kind on qubit `first` of three, or on it and the ones after it in turn; from 3 on, with others as further controls.
 fn gate_on(alloc: Global, kind: Kind, first: u32) -> Gate
     ensures { IsOn 3 result }
 {
@@ -60,7 +64,10 @@ fn on_one(alloc: Global, kind: Kind, first: u32) -> Gate
     match first {
         0 => Gate::new(alloc, kind, &[0]),
         1 => Gate::new(alloc, kind, &[1]),
-        _ => Gate::new(alloc, kind, &[2]),
+        2 => Gate::new(alloc, kind, &[2]),
+        3 => Gate::controlled(alloc, &[1], kind, &[0]),
+        4 => Gate::controlled(alloc, &[2, 0], kind, &[1]),
+        _ => Gate::controlled(alloc, &[0], kind, &[2]),
     }
 }
 
@@ -71,7 +78,10 @@ fn on_two(alloc: Global, kind: Kind, first: u32) -> Gate
     match first {
         0 => Gate::new(alloc, kind, &[0, 1]),
         1 => Gate::new(alloc, kind, &[1, 2]),
-        _ => Gate::new(alloc, kind, &[2, 0]),
+        2 => Gate::new(alloc, kind, &[2, 0]),
+        3 => Gate::controlled(alloc, &[2], kind, &[0, 1]),
+        4 => Gate::controlled(alloc, &[0], kind, &[1, 2]),
+        _ => Gate::controlled(alloc, &[1], kind, &[2, 0]),
     }
 }
 
@@ -103,8 +113,8 @@ fn drawn_circuit(alloc: Global, mut seed: u32, gates: u32) -> Result<Circuit, Ou
 {
     let mut circuit = Circuit::new(alloc, 3)?;
     'gates: for _ in 0..gates {
-        let kind = KINDS[drawn(&mut seed, 18) as usize];
-        let gate = gate_on(alloc, kind, drawn(&mut seed, 3));
+        let kind = KINDS[drawn(&mut seed, 22) as usize];
+        let gate = gate_on(alloc, kind, drawn(&mut seed, 6));
         add(&mut circuit, gate)?;
     }
     Ok(circuit)

@@ -1,4 +1,5 @@
 pub mod MatrixLemmas
+pub mod ControlledLemmas
 pub mod PlacedLemmas
 pub mod CircuitLemmas
 pub mod TableLemmas

@@ -17,9 +17,9 @@ pub record IsCircuit (c : Circuit) : Type 0 where
   pub within : All (IsOn c.qubits) c.gates
   pub flags : length c.measured ≡ c.qubits
 
--- the gate with the inverse matrix, on the same qubits
+-- the gate with the inverse matrix, on the same qubits, with the same further controls
 abbrev pub inverse_gate : Gate → Gate
-inverse_gate g = record { kind = inverse_of g.kind; on = g.on }
+inverse_gate g = record { kind = inverse_of g.kind; on = g.on; extra = g.extra }
 
 -- the inverse gates, the last one first
 abbrev pub inverse_gates : List Gate → List Gate

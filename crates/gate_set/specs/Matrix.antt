@@ -1,12 +1,12 @@
--- The gates' matrices, without the factor 1/√2 of some. Each entry is zero or a power of ω, an eighth root of unity. The first
--- qubit of a gate is the highest bit of row and column. The matrices are those of OpenQASM 2.0's standard gates.
-use Rattle.std.specs.Prelude.{ℕ, ◌≤◌, List, [], ◌∷◌, ◌++◌, map, get_or, ⊤}
+-- The gates' matrices, without the factor 1/√2 of some. Each entry is zero, a power of ω, an eighth root of unity, or √2. The first
+-- qubit of a gate is the highest bit of row and column. The matrices are those of OpenQASM 2.0's standard gates, and further controls.
+use Rattle.std.specs.Prelude.{ℕ, ◌+◌, ◌-◌, ◌%◌, ◌^◌, ◌==◌, ◌≤◌, nat_le, ◌&&◌, cond, List, [], ◌∷◌, ◌++◌, map, get_or, ⊤}
 use Rattle.gate_set.specs.declared.kind.Kind.{Kind}
-use Rattle.gate_set.specs.declared.kind.Kind.TheVariants.{Id, X, Y, Z, H, S, Sdg, T, Tdg, RxP, RxM, RyP, RyM, Cx, Cz, Swap, Ccx, Cswap}
+use Rattle.gate_set.specs.declared.kind.Kind.TheVariants.{Id, X, Y, Z, H, S, Sdg, T, Tdg, RxP, RxM, RyP, RyM, Cx, Cz, Swap, Ccx, Cswap, Phase}
 use Rattle.gate_set.specs.declared.entry.Entry.{Entry}
-use Rattle.gate_set.specs.declared.entry.Entry.TheVariants.{Zero, Omega}
+use Rattle.gate_set.specs.declared.entry.Entry.TheVariants.{Zero, Omega, Root2}
 use Rattle.ring_omega.specs.declared.quad.Quad.{Quad}
-use Rattle.ring_omega.specs.Ring.{zero_quad, times_power, omega_unit}
+use Rattle.ring_omega.specs.Ring.{zero_quad, product_of, times_power, omega_unit, root_of_two}
 
 abbrev pub two_by_two : Entry → Entry → Entry → Entry → List (List Entry)
 two_by_two a b c d = (a ∷ b ∷ []) ∷ (c ∷ d ∷ []) ∷ []
@@ -56,6 +56,7 @@ matrix_of Cz = controlled (diagonal 0 4)
 matrix_of Swap = exchange
 matrix_of Ccx = controlled (controlled flip)
 matrix_of Cswap = controlled exchange
+matrix_of (Phase j) = diagonal 0 j
 
 -- how many qubits a gate is on
 abbrev pub arity_of : Kind → ℕ
@@ -85,18 +86,47 @@ inverse_of RxP = RxM
 inverse_of RxM = RxP
 inverse_of RyP = RyM
 inverse_of RyM = RyP
+inverse_of (Phase j) = Phase ((8 - j) % 8)
 inverse_of k = k
 
--- the entry in this row and column
+-- the entry of the kind's matrix in this row and column
 unfoldable pub entry_of : Kind → ℕ → ℕ → Entry
 entry_of k row col = get_or (get_or (matrix_of k) row []) col Zero
+
+-- what stands on the diagonal where a further control is 0: 1, times √2 where the kind's matrix leaves out a factor 1/√2
+abbrev pub beside : Kind → Entry
+beside k = cond (half_power_of k == 0) (Omega 0) Root2
+
+-- with e further controls before the kind's qubits: the first row, and column, where all of them are 1
+abbrev pub block_start : ℕ → Kind → ℕ
+block_start e k = 2 ^ (e + arity_of k) - 2 ^ arity_of k
+
+-- the entry in this row and column with e further controls: the kind's where all of them are 1 in both, and else that of the diagonal
+unfoldable pub controlled_entry : ℕ → Kind → ℕ → ℕ → Entry
+controlled_entry e k row col =
+    cond (nat_le (block_start e k) row && nat_le (block_start e k) col)
+    (entry_of k (row - block_start e k) (col - block_start e k))
+    (cond (row == col) (beside k) Zero)
 
 -- the entry times a number
 abbrev pub times_entry : Entry → Quad → Quad
 times_entry Zero q = zero_quad
 times_entry (Omega j) q = times_power omega_unit j q
+times_entry Root2 q = product_of q root_of_two
 
 -- the power of ω, if there is one, is at most 7
 abbrev pub IsReduced : Entry → Type 0
 IsReduced Zero = ⊤
 IsReduced (Omega j) = j ≤ 7
+IsReduced Root2 = ⊤
+
+-- it is zero or a power of ω, at most the seventh: an entry of a kind's matrix
+abbrev pub IsPower : Entry → Type 0
+IsPower Zero = ⊤
+IsPower (Omega j) = j ≤ 7
+IsPower Root2 = ⊥
+
+-- the power of a phase is at most 7
+abbrev pub IsKind : Kind → Type 0
+IsKind (Phase j) = j ≤ 7
+IsKind _ = ⊤

@@ -1,8 +1,9 @@
 //! Entries of gate matrices.
 
-/// Zero, or a power of ω, at most the seventh.
+/// Zero, a power of ω, at most the seventh, or √2.
 #[derive(Clone, Copy, PartialEq, Eq, Debug)]
 pub enum Entry {
     Zero,
     Omega(u8),
+    Root2,
 }

@@ -2,7 +2,8 @@
 ghost use Rattle.std.specs.Prelude.{◌≡◌, ◌≤◌};
 ghost use Rattle.gate_set.specs.Matrix.{arity_of};
 
-/// What a gate does. `RxP` and `RxM` are the quarter turns about the x axis, `RyP` and `RyM` those about the y axis.
+/// What a gate does. `RxP` and `RxM` are the quarter turns about the x axis, `RyP` and `RyM` those about the y axis, and `Phase(m)` turns
+/// the amplitude of 1 by ω to the power m, at most the seventh.
 #[derive(Clone, Copy, PartialEq, Eq, Debug)]
 pub enum Kind {
     Id,
@@ -23,6 +24,7 @@ pub enum Kind {
     Swap,
     Ccx,
     Cswap,
+    Phase(u8),
 }
 
 impl Kind {

@@ -2,6 +2,7 @@
 #![tactic(auto)]
 
 mod circuit;
+mod controls;
 mod entry;
 mod gate;
 mod kind;
@@ -12,6 +13,7 @@ mod table;
 mod tests;
 
 pub use circuit::Circuit;
+pub use controls::Controls;
 pub use entry::Entry;
 pub use gate::Gate;
 pub use kind::Kind;

@@ -1,4 +1,4 @@
-//! The qubits of a gate.
+//! The qubits of a gate's kind.
 ghost use Rattle.std.specs.Prelude.{◌≡◌, ◌≤◌, length};
 
 use smallvec::SmallVec;

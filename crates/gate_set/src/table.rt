@@ -42,12 +42,19 @@ macro_rules! rows {
                 controls: $controls,
                 block: block!($block),
             },)*
+            Kind::Phase(power) => Row {
+                inverse: Kind::Phase(8u8.saturating_sub(power) % 8),
+                half_power: 0,
+                controls: 0,
+                block: Block::One(Entry::Omega(0), Entry::Zero, Entry::Zero, Entry::Omega(power)),
+            },
         }
     };
 }
 
 impl Kind {
-    // A line of the table: the kind, then its inverse, its half power, its number of controls, and its block by rows.
+    // A line of the table: the kind, then its inverse, its half power, its number of controls, and its block by rows. A phase stands
+    // beside it, for its power.
     #[tactic(auto, unfolding(crate::specs::Matrix::matrix_of))]
     pub(crate) fn row(self) -> Row
         ensures inverse { result.inverse ≡ inverse_of self }

@@ -2,7 +2,7 @@
 use Rattle.std.proofs.Common.{◌≡◌, ◌∙◌, sym, refl, ◌<◌, ℕ, arith, ℤ, pos, ◌≤ℤ◌, ◌+ℤ◌, ◌*ℤ◌}
 use Rattle.std.proofs.lemmas.Int.{ints}
 use Rattle.qasm_lex.specs.Fractions.{Ratio}
-use Rattle.qasm_lex.specs.Quarters.{IsQuarters}
+use Rattle.qasm_lex.specs.Quarters.{IsQuarters, IsEighths}
 use Rattle.qasm_lex.proofs.QuarterLemmas.{quotient_of}
 
 -- a positive factor can be left out
@@ -15,4 +15,8 @@ remainder_one m k s t a b e = omega (arith, ints)
 
 pub one_quarters : (f : Ratio) (m k : ℕ) → pos 1 ≤ℤ f.den → IsQuarters f m → IsQuarters f k → m ≡ k
 one_quarters f m k p a b =
+    remainder_one m k a.times b.times a.below b.below (factor_out _ _ f.den p (sym a.same ∙ b.same))
+
+pub one_eighths : (f : Ratio) (m k : ℕ) → pos 1 ≤ℤ f.den → IsEighths f m → IsEighths f k → m ≡ k
+one_eighths f m k p a b =
     remainder_one m k a.times b.times a.below b.below (factor_out _ _ f.den p (sym a.same ∙ b.same))

@@ -3,7 +3,7 @@ ghost use Rattle.std.specs.Prelude.{◌≡◌, ◌≤◌, ◌∷◌, List, lengt
 ghost use Rattle.std.specs.Int.{IsGcd};
 ghost use Rattle.qasm_lex.specs.Fractions.{Ratio, lowest};
 ghost use Rattle.qasm_lex.specs.Angles.{IsAnswer};
-ghost use Rattle.qasm_lex.specs.Quarters.{IsQuarters};
+ghost use Rattle.qasm_lex.specs.Quarters.{IsQuarters, IsEighths};
 ghost use Rattle.qasm_lex.specs.declared.symbol.Symbol.{Symbol};
 ghost use Rattle.qasm_lex.specs.declared.refusal.AngleRefusal.{AngleRefusal};
 ghost use Rattle.qasm_lex.specs.Lexemes.{AreTokens, Begins};
@@ -68,4 +68,9 @@ pub fn angles_have_positive_denominators()
 /// A fraction is at most one number of quarter turns below two full turns.
 pub fn quarters_are_unique()
     ensures { (f : Ratio) (m k : ℕ) → pos 1 ≤ℤ f.den → IsQuarters f m → IsQuarters f k → m ≡ k }
+{}
+
+/// A fraction is at most one number of eighths of a turn below a full turn.
+pub fn eighths_are_unique()
+    ensures { (f : Ratio) (m k : ℕ) → pos 1 ≤ℤ f.den → IsEighths f m → IsEighths f k → m ≡ k }
 {}

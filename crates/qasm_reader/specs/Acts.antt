@@ -20,9 +20,10 @@ pub record Target : Type 0 where
   pub first : ℕ
   pub size : Option ℕ
 
--- a gate of what a call does: its kind, and the numbers of the arguments that it is done on, counted from 0
+-- a gate of what a call does: its kind, and the numbers of the arguments that are its further controls, and its qubits, counted from 0
 pub record Item : Type 0 where
   pub kind : Kind
+  pub extra : List ℕ
   pub on : List ℕ
 
 pub data Act : Type 0 where
@@ -102,7 +103,7 @@ up_to (suc n) = up_to n ++ n ∷ []
 
 -- a gate on those of the qubits that it names by their numbers
 abbrev pub placed : List ℕ → Item → Gate
-placed qubits i = record { kind = i.kind; on = map (λ n. get_or qubits n 0) i.on }
+placed qubits i = record { kind = i.kind; on = map (λ n. get_or qubits n 0) i.on; extra = map (λ n. get_or qubits n 0) i.extra }
 
 -- all of them at each place in turn
 abbrev pub product : List Item → List Target → List Gate

@@ -5,8 +5,8 @@ use Rattle.std.specs.Str.{bytes_eq}
 use Rattle.qasm_reader.specs.Acts.{Act}
 
 abbrev pub words_left_out : List (List ℕ)
-words_left_out = codes "gate" ∷ codes "opaque" ∷ codes "reset" ∷ codes "if" ∷ codes "U" ∷ codes "CX" ∷ codes "rz" ∷ codes "u1" ∷ codes "u2" ∷ codes "u3"
-    ∷ codes "crz" ∷ codes "cu1" ∷ codes "cu3" ∷ codes "cy" ∷ codes "ch" ∷ []
+words_left_out = codes "gate" ∷ codes "opaque" ∷ codes "reset" ∷ codes "if" ∷ codes "U" ∷ codes "CX" ∷ codes "rz" ∷ codes "u2" ∷ codes "u3"
+    ∷ codes "crz" ∷ codes "cu3" ∷ []
 
 -- a statement that begins with this word is left out, given what was done before it
 abbrev pub leaves : List Act → List ℕ → Bool

@@ -21,8 +21,8 @@ fn narrow(qubit: u64) -> u8
 
 // The qubits of a gate at the place.
 #[tactic(auto, using(crate::proofs::Applied::small_at))]
-fn qubits_at(targets: &[Target], place: u32) -> ArrayVec<u8, 3>
-    requires few { length targets.now ≤ 3 }
+fn qubits_at(targets: &[Target], place: u32) -> ArrayVec<u8, 11>
+    requires few { length targets.now ≤ 11 }
     requires small { All (λ q. q < 64) (qubits_at (seen_targets targets.now) place) }
     ensures { result.items ≡ qubits_at (seen_targets targets.now) place }
 {
@@ -33,39 +33,43 @@ fn qubits_at(targets: &[Target], place: u32) -> ArrayVec<u8, 3>
     on
 }
 
-// The gates of the call at the place.
+// The gates of the call at the place: the first of its qubits are further controls.
 #[tactic(auto, using(crate::proofs::Applied::replicate_next, crate::proofs::Applied::placed_same))]
 fn apply_at(
     alloc: Global,
     kind: Kind,
     times: u8,
+    extra: &[u8],
     on: &[u8],
     gates: &mut Vec<Gate>,
 ) -> Result<(), OutOfMemory>
-    requires { IsPlaced kind on.now }
-    ensures { OnOk result (gates.new.items ≡ gates.old.items ++ map (placed on.now) (replicate times (one kind))) }
+    requires { IsPlaced kind extra.now on.now }
+    ensures { OnOk result (gates.new.items ≡ gates.old.items ++ map (placed (extra.now ++ on.now)) (replicate times (one (length extra.now) kind))) }
 {
     for _step in 0..times {
-        gates.push(Gate::new(alloc, kind, on))?;
+        gates.push(Gate::controlled(alloc, extra, kind, on))?;
     }
     Ok(())
 }
 
-/// Adds the gates of a call: those of each place of its arguments in turn.
+/// Adds the gates of a call: those of each place of its arguments in turn. The first arguments are further controls.
 #[tactic(auto, using(crate::proofs::Applied::product_next))]
 pub fn apply(
     alloc: Global,
+    controls: u8,
     kind: Kind,
     times: u8,
     targets: &[Target],
     gates: &mut Vec<Gate>,
 ) -> Result<(), OutOfMemory>
-    requires { (place : ℕ) → place < place_count (seen_targets targets.now) → IsPlaced kind (qubits_at (seen_targets targets.now) place) }
-    ensures { OnOk result (gates.new.items ≡ gates.old.items ++ product (replicate times (one kind)) (seen_targets targets.now)) }
+    requires placed { (place : ℕ) → place < place_count (seen_targets targets.now) → IsPlaced kind (take controls (qubits_at (seen_targets targets.now) place)) (drop controls (qubits_at (seen_targets targets.now) place)) }
+    requires few { controls ≤ length targets.now }
+    ensures { OnOk result (gates.new.items ≡ gates.old.items ++ product (replicate times (one controls kind)) (seen_targets targets.now)) }
 {
     for place in 0..places(targets) {
-        let on = qubits_at(targets, place);
-        apply_at(alloc, kind, times, on.as_slice(), gates)?;
+        let qubits = qubits_at(targets, place);
+        let (extra, on) = qubits.as_slice().split_at(controls as usize);
+        apply_at(alloc, kind, times, extra, on, gates)?;
     }
     Ok(())
 }

@@ -1,78 +1,132 @@
 //! The gates that have names.
-ghost use Rattle.std.specs.Prelude.{◌≡◌, ◌<◌, ◌&&◌, nat_eq, option_map};
+ghost use Rattle.std.specs.Prelude.{◌≡◌, ◌<◌, ◌≤◌, ◌-◌, ◌&&◌, nat_eq, option_map};
 ghost use Rattle.gate_set.specs.Matrix.{arity_of};
-ghost use Rattle.qasm_reader.specs.Calls.{builtin, arity, angle_count, turns};
-ghost use Rattle.qasm_reader.specs.Private.Seen.{seen_named};
+ghost use Rattle.qasm_reader.specs.Calls.{builtin, based, bases, arity, base_arity, angle_count, base_angles, turns};
+ghost use Rattle.qasm_reader.specs.Private.Seen.{seen_base, seen_named};
 ghost use Rattle.qasm_reader.specs.Private.Scope.{items_of};
 
 use gate_set::Kind;
 
-/// What the name of a gate stands for.
+/// What a name without letters c before it stands for.
 #[derive(Clone, Copy, Debug, PartialEq, Eq)]
-pub enum Builtin {
+pub enum Base {
     /// One gate.
     Gate(Kind),
     /// Quarter turns about an axis, forth and back.
     Turn(Kind, Kind),
+    /// Eighths of a turn of phase.
+    Phase,
 }
 
-impl Builtin {
+/// What the name of a gate stands for: that of its base, with further controls.
+#[derive(Clone, Copy, Debug, PartialEq, Eq)]
+pub struct Builtin {
+    pub controls: u8,
+    pub base: Base,
+}
+
+impl Base {
     fn arity(self) -> u8
-        ensures { result ≡ arity (seen_named self) }
+        ensures value { result ≡ base_arity (seen_base self) }
+        ensures few { result ≤ 3 }
     {
         match self {
-            Builtin::Gate(kind) => kind.arity(),
-            Builtin::Turn(_, _) => 1,
+            Base::Gate(kind) => kind.arity(),
+            Base::Turn(_, _) | Base::Phase => 1,
         }
     }
 
     fn angle_count(self) -> u8
-        ensures { result ≡ angle_count (seen_named self) }
+        ensures { result ≡ base_angles (seen_base self) }
     {
         match self {
-            Builtin::Gate(_) => 0,
-            Builtin::Turn(_, _) => 1,
+            Base::Gate(_) => 0,
+            Base::Turn(_, _) | Base::Phase => 1,
         }
-    }
-
-    /// Whether it has so many arguments and angles.
-    pub fn has_counts(self, arguments: u8, angles: u8) -> bool
-        ensures { result ≡ nat_eq arguments (arity (seen_named self)) && nat_eq angles (angle_count (seen_named self)) }
-    {
-        arguments == self.arity() && angles == self.angle_count()
     }
 }
 
-/// The gate of a name.
-#[tactic(auto, unfolding(crate::specs::Calls::builtin))]
-pub fn gate_named(name: &[u8]) -> Option<Builtin>
-    ensures { option_map seen_named result ≡ builtin name.now }
+impl Builtin {
+    /// Whether it has so many arguments and angles.
+    pub fn has_counts(self, arguments: u8, angles: u8) -> bool
+        requires { self.controls ≤ 8 }
+        ensures { result ≡ nat_eq arguments (arity (seen_named self)) && nat_eq angles (angle_count (seen_named self)) }
+    {
+        arguments == self.controls + self.base.arity() && angles == self.base.angle_count()
+    }
+}
+
+/// The base of a name without letters c.
+#[tactic(auto)]
+fn base_named(name: &[u8]) -> Option<Base>
+    ensures { option_map seen_base result ≡ lookup (bytes_eq name.now) bases }
 {
     match name {
-        b"id" => Some(Builtin::Gate(Kind::Id)),
-        b"x" => Some(Builtin::Gate(Kind::X)),
-        b"y" => Some(Builtin::Gate(Kind::Y)),
-        b"z" => Some(Builtin::Gate(Kind::Z)),
-        b"h" => Some(Builtin::Gate(Kind::H)),
-        b"s" => Some(Builtin::Gate(Kind::S)),
-        b"sdg" => Some(Builtin::Gate(Kind::Sdg)),
-        b"t" => Some(Builtin::Gate(Kind::T)),
-        b"tdg" => Some(Builtin::Gate(Kind::Tdg)),
-        b"rx" => Some(Builtin::Turn(Kind::RxP, Kind::RxM)),
-        b"ry" => Some(Builtin::Turn(Kind::RyP, Kind::RyM)),
-        b"cx" => Some(Builtin::Gate(Kind::Cx)),
-        b"cz" => Some(Builtin::Gate(Kind::Cz)),
-        b"swap" => Some(Builtin::Gate(Kind::Swap)),
-        b"ccx" => Some(Builtin::Gate(Kind::Ccx)),
-        b"cswap" => Some(Builtin::Gate(Kind::Cswap)),
+        b"x" => Some(Base::Gate(Kind::X)),
+        b"y" => Some(Base::Gate(Kind::Y)),
+        b"z" => Some(Base::Gate(Kind::Z)),
+        b"h" => Some(Base::Gate(Kind::H)),
+        b"s" => Some(Base::Gate(Kind::S)),
+        b"sdg" => Some(Base::Gate(Kind::Sdg)),
+        b"t" => Some(Base::Gate(Kind::T)),
+        b"tdg" => Some(Base::Gate(Kind::Tdg)),
+        b"rx" => Some(Base::Turn(Kind::RxP, Kind::RxM)),
+        b"ry" => Some(Base::Turn(Kind::RyP, Kind::RyM)),
+        b"swap" => Some(Base::Gate(Kind::Swap)),
+        b"u1" => Some(Base::Phase),
         _ => None,
     }
+}
+
+// The gate of a name that stands for itself.
+fn own_named(name: &[u8]) -> Option<Base>
+    ensures { option_map seen_base result ≡ lookup (bytes_eq name.now) own }
+{
+    match name {
+        b"id" => Some(Base::Gate(Kind::Id)),
+        b"cx" => Some(Base::Gate(Kind::Cx)),
+        b"cz" => Some(Base::Gate(Kind::Cz)),
+        b"ccx" => Some(Base::Gate(Kind::Ccx)),
+        b"cswap" => Some(Base::Gate(Kind::Cswap)),
+        _ => None,
+    }
+}
+
+// The gate of a base's name with up to so many letters c before it.
+fn based(name: &[u8], most: u8) -> Option<Builtin>
+    requires { most ≤ 8 }
+    ensures named { option_map seen_named result ≡ based most name.now }
+    ensures few { IfSome result (λ b. b.controls ≤ most) }
+    decreases { most }
+{
+    if most > 0 {
+        if let Some((b'c', rest)) = name.split_first() {
+            let inner = based(rest, most - 1)?;
+            return Some(Builtin {
+                controls: inner.controls + 1,
+                base: inner.base,
+            });
+        }
+    }
+    let base = base_named(name)?;
+    Some(Builtin { controls: 0, base })
+}
+
+/// The gate of a name.
+pub fn gate_named(name: &[u8]) -> Option<Builtin>
+    ensures named { option_map seen_named result ≡ builtin name.now }
+    ensures few { IfSome result (λ b. b.controls ≤ 8) }
+{
+    if let Some(base) = own_named(name) {
+        return Some(Builtin { controls: 0, base });
+    }
+    based(name, 8)
 }
 
 /// How a number of quarter turns is done: by how many of which kind.
 pub fn turns(forth: Kind, back: Kind, quarters: u8) -> (Kind, u8)
     requires { quarters < 8 }
-    ensures items { items_of result ≡ turns forth back quarters }
+    ensures items { (n : ℕ) → items_of n result ≡ turns n forth back quarters }
     ensures arity { arity_of forth ≡ 1 → arity_of back ≡ 1 → arity_of result.0 ≡ 1 }
 {
     if quarters == 0 {

@@ -269,6 +269,7 @@ impl<'a> Draft<'a> {
             Ok((kind, times)) => {
                 apply(
                     alloc,
+                    gate.controls,
                     kind,
                     times,
                     found.targets.as_slice(),

@@ -2,10 +2,12 @@
 ghost use Rattle.std.specs.Prelude.{◌≡◌, ◌≤◌, ◌+◌, ◌^◌, ℕ, ◌-◌, ◌↔◌, pos, neg_ℤ, ◌+ℤ◌, ◌-ℤ◌};
 ghost use Rattle.std.specs.Option.{SomeIff};
 ghost use Rattle.ring_omega.specs.Bounds.{IntWithin, IsWithin};
-ghost use Rattle.ring_omega.specs.Ring.{quad, sum_of, times_power, omega_unit, zero_quad};
+ghost use Rattle.ring_omega.specs.Ring.{quad, sum_of, product_of, times_power, omega_unit, root_of_two, zero_quad};
+ghost use Rattle.gate_set.specs.Matrix.{times_entry, IsReduced};
 ghost use Rattle.circuit_model.specs.Working.{IntFits, QuadFits};
 ghost use Rattle.quad_lists.specs.Sums.{sum_value, quad_value, AreBounds};
 
+use gate_set::Entry;
 use ring_omega::Quad;
 
 /// The least and the greatest coefficient of a width.
@@ -128,6 +130,30 @@ impl ExactQuad {
         }
     }
 
+    /// √2 times `q`.
+    pub fn root_times(q: Quad) -> ExactQuad
+        ensures { quad_value result ≡ product_of q root_of_two }
+    {
+        gathered(
+            less(q.b, q.d),
+            both(q.a, q.c),
+            both(q.b, q.d),
+            less(q.c, q.a),
+        )
+    }
+
+    /// An entry of a matrix times `q`.
+    pub fn entry_times(entry: Entry, q: Quad) -> ExactQuad
+        requires { IsReduced entry }
+        ensures { quad_value result ≡ times_entry entry q }
+    {
+        match entry {
+            Entry::Zero => ExactQuad::ZERO,
+            Entry::Omega(j) => ExactQuad::ZERO.plus_turned(j, q),
+            Entry::Root2 => ExactQuad::root_times(q),
+        }
+    }
+
     /// The sum, if all of its coordinates lie within the bounds of the width.
     pub fn fitted(self, width: u8, bounds: Bounds) -> Option<Quad>
         requires small { width ≤ 128 }
@@ -141,6 +167,18 @@ impl ExactQuad {
             d: self.d.fitted(width, bounds)?,
         })
     }
+}
+
+fn both(x: i128, y: i128) -> ExactSum
+    ensures { sum_value result ≡ x +ℤ y }
+{
+    ExactSum::ZERO.plus(x).plus(y)
+}
+
+fn less(x: i128, y: i128) -> ExactSum
+    ensures { sum_value result ≡ x -ℤ y }
+{
+    ExactSum::ZERO.plus(x).minus(y)
 }
 
 fn gathered(a: ExactSum, b: ExactSum, c: ExactSum, d: ExactSum) -> ExactQuad

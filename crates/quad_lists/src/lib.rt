@@ -8,4 +8,4 @@ mod places;
 
 pub use exact::{Bounds, ExactQuad, ExactSum};
 pub use halving::halve_shared;
-pub use places::{place_with, row_of};
+pub use places::{all_set, place_with, row_of};

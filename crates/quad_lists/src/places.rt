@@ -1,6 +1,7 @@
 //! The bits of a gate's qubits in basis states that are given by their places.
 ghost use Rattle.std.specs.Prelude.{◌≡◌, ◌<◌, ◌≤◌, ◌^◌, ◌*◌, ◌+◌, List, Bool, length, All};
 ghost use Rattle.bit_lists.specs.Lists.{bit_value, place_of, bits_at, with_bits};
+ghost use Rattle.circuit_model.specs.Vector.{all_set};
 
 use bit_lists::{bit_of, with_bit};
 
@@ -24,6 +25,22 @@ fn with_last(row: u8, b: bool) -> u8
     ensures { result ≡ row * 2 + bit_value b }
 {
     if b { row * 2 + 1 } else { row * 2 }
+}
+
+/// Whether all bits at `on` of the list at a place are 1.
+pub fn all_set(qubits: u8, place: u128, on: &[u8]) -> bool
+    requires small { qubits ≤ 12 }
+    requires below { All (λ q. q < qubits) on.now }
+    ensures { (x : List Bool) → length x ≡ qubits → place_of x ≡ place → all_set x on.now ≡ result }
+{
+    let mut rest = on;
+    while let Some((q, after)) = rest.split_first() {
+        if !bit_of(qubits, place, *q) {
+            return false;
+        }
+        rest = after;
+    }
+    true
 }
 
 /// The place of the list whose bits at `on` are those of the list at place `col`, and whose others are those of the list at `place`.

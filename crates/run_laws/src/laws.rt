@@ -99,14 +99,14 @@ pub fn demo_is_never_refused()
 
 /// What `sim` writes of small circuits: a Bell pair, no gate, H twice, and H T H; and what `demo` writes of H and the inverse of T.
 pub fn small_outputs()
-    ensures bell_pair { sim_output 2 (zeros 2) (record { kind = Kind.H; on = 0 ∷ [] } ∷ record { kind = Kind.Cx; on = 0 ∷ 1 ∷ [] } ∷ [])
+    ensures bell_pair { sim_output 2 (zeros 2) (record { kind = Kind.H; on = 0 ∷ []; extra = [] } ∷ record { kind = Kind.Cx; on = 0 ∷ 1 ∷ []; extra = [] } ∷ [])
         ≡ codes "qubits 2\n|00> (0,0,0,1)/sqrt2^1\n|11> (0,0,0,1)/sqrt2^1\nstates 2\n" }
     ensures no_gates { sim_output 1 (zeros 1) [] ≡ codes "qubits 1\n|0> (0,0,0,1)/sqrt2^0\nstates 1\n" }
-    ensures h_twice { sim_output 1 (zeros 1) (record { kind = Kind.H; on = 0 ∷ [] } ∷ record { kind = Kind.H; on = 0 ∷ [] } ∷ [])
+    ensures h_twice { sim_output 1 (zeros 1) (record { kind = Kind.H; on = 0 ∷ []; extra = [] } ∷ record { kind = Kind.H; on = 0 ∷ []; extra = [] } ∷ [])
         ≡ codes "qubits 1\n|0> (0,0,0,1)/sqrt2^0\nstates 1\n" }
-    ensures h_t_h { sim_output 1 (zeros 1) (record { kind = Kind.H; on = 0 ∷ [] } ∷ record { kind = Kind.T; on = 0 ∷ [] } ∷ record { kind = Kind.H; on = 0 ∷ [] } ∷ [])
+    ensures h_t_h { sim_output 1 (zeros 1) (record { kind = Kind.H; on = 0 ∷ []; extra = [] } ∷ record { kind = Kind.T; on = 0 ∷ []; extra = [] } ∷ record { kind = Kind.H; on = 0 ∷ []; extra = [] } ∷ [])
         ≡ codes "qubits 1\n|0> (0,0,1,1)/sqrt2^2\n|1> (0,0,-1,1)/sqrt2^2\nstates 2\n" }
-    ensures summary { demo_output 1 (record { kind = Kind.H; on = 0 ∷ [] } ∷ record { kind = Kind.Tdg; on = 0 ∷ [] } ∷ [])
+    ensures summary { demo_output 1 (record { kind = Kind.H; on = 0 ∷ []; extra = [] } ∷ record { kind = Kind.Tdg; on = 0 ∷ []; extra = [] } ∷ [])
         ≡ codes "qubits 1\ngates 2\nexponent 1\nstates 2\nfirst |0> (0,0,0,1)/sqrt2^1\nlast |1> (-1,0,0,0)/sqrt2^1\n" }
 {
     // The clauses name kinds; an import wants a use in code too.

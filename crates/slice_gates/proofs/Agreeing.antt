@@ -1,8 +1,9 @@
 -- Vectors read the variables of their store alone, and steps the variables that they have beside.
 use Rattle.std.proofs.Common.{◌≡◌, ℕ, zero, suc, ◌+◌, ◌*◌, ◌-◌, ◌^◌, ◌≤◌, pos, ◌-ℤ◌, Bool, true, false, cond, eqb, List, [], ◌∷◌, length, refl, ◌∙◌, ap, arith}
-use Rattle.std.specs.Prelude.{◌&&◌}
+use Rattle.std.specs.Prelude.{◌&&◌, ◌==◌}
 use Rattle.std.proofs.Math.Path.{ap₂}
 use Rattle.diagram_ops.specs.Connectives.{number}
+use Rattle.ring_omega.specs.declared.quad.Quad.{Quad}
 use Rattle.ring_omega.specs.Ring.{sum_of}
 use Rattle.ring_omega.proofs.RingLemmas.{quad_eq}
 use Rattle.gate_set.specs.Matrix.{times_entry}
@@ -14,7 +15,7 @@ use Rattle.diagram_model.proofs.Values.{below-order}
 use Rattle.slice_vec.specs.Digits.{Digits, low_sum, slice_value}
 use Rattle.slice_vec.specs.Slices.{digits_of, bit_node, value_at}
 use Rattle.slice_quad.specs.declared.four.Four.{Four}
-use Rattle.slice_quad.specs.Mix.{Vector, all_true, mixed}
+use Rattle.slice_quad.specs.Mix.{Vector, all_true, elsewhere, mixed}
 use Rattle.slice_quad.specs.Exchange.{exchanged}
 use Rattle.slice_quad.specs.Fours.{true_places}
 use Rattle.slice_quad.specs.Vectors.{vector_in}
@@ -78,14 +79,15 @@ pub stepped-reads : (n : ℕ) (s : Step) (v : Vector) → IsStepOn n s → Reads
 unfolding mixed exchanged
 stepped-reads n (steps.Mix cs t rows half) v on reads x y same =
     let target = same t on.2 in
-    let entry = (mix_with cs t rows).rows in
+    let entry = (mix_with cs t rows half).rows in
+    let out = λ (q : Quad). elsewhere (half == 1) q in
     let low = reads (put x t false) (put y t false) (put-agree n x y t false false refl same) in
     let high = reads (put x t true) (put y t true) (put-agree n x y t true true refl same) in
-    ap₂ (λ c r. cond c r (v x)) (controls-agree n cs x y on.1 same)
+    ap₂ (λ c r. cond c r (out (v x))) (controls-agree n cs x y on.1 same)
     (ap₂ sum_of
     (ap₂ times_entry (ap (λ r. entry r false) target) low)
     (ap₂ times_entry (ap (λ r. entry r true) target) high))
-    ∙ ap (cond (all_true (true_places 0 cs) y) _) (reads x y same)
+    ∙ ap (λ q. cond (all_true (true_places 0 cs) y) (sum_of (times_entry (entry (y t) false) (v (put y t false))) (times_entry (entry (y t) true) (v (put y t true)))) (out q)) (reads x y same)
 stepped-reads n (steps.Exchange cs first second) v on reads x y same =
     let moved = reads (put (put x second (x first)) first (x second)) (put (put y second (y first)) first (y second))
     (put-agree n (put x second (x first)) (put y second (y first)) first (x second) (y second) (same second on.2) (put-agree n x y second (x first) (y first) (same first on.1) same)) in

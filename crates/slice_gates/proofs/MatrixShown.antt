@@ -4,7 +4,8 @@ use Rattle.std.proofs.Math.Path.{ap₂}
 use Rattle.std.proofs.lemmas.List.{length-take-le, length-drop, length-append}
 use Rattle.bit_lists.specs.Lists.{all_lists, place_of, bits_at, with_bits}
 use Rattle.gate_set.specs.declared.gate.Gate.{Gate}
-use Rattle.gate_set.specs.Matrix.{entry_of, times_entry}
+use Rattle.gate_set.specs.Matrix.{times_entry}
+use Rattle.gate_set.specs.Shape.{qubits_of, gate_entry}
 use Rattle.circuit_model.specs.Working.{Scaled, scaled, halved}
 use Rattle.circuit_model.specs.Working as circuits
 use Rattle.circuit_model.proofs.SumLemmas.{sum_over-same, length-with_bits}
@@ -37,8 +38,8 @@ left_shown n d f k w g s r c shown is er ec =
 pub right_shown : (n : ℕ) (d : Diagram) (f : Four) (k : ℕ) (w : Scaled) (g : Gate) (s : Step) (r c : List Bool) → IsMatrixShown n d f k w → IsStepOf (2 * n) Columns g s → length r ≡ n → length c ≡ n
     → right_product g (by_position w.entries) r c ≡ stepped s (vector_in d f) (bit (woven r c))
 right_shown n d f k w g s r c shown is er ec =
-    sum_over-same (all_lists (length g.on)) _ _
-    (λ y. ap (times_entry (entry_of g.kind (place_of y) (place_of (bits_at c g.on)))) (shown.entries r (with_bits c g.on y) er (length-with_bits c g.on y ∙ ec)))
+    sum_over-same (all_lists (length (qubits_of g))) _ _
+    (λ y. ap (times_entry (gate_entry g (place_of y) (place_of (bits_at c (qubits_of g))))) (shown.entries r (with_bits c (qubits_of g) y) er (length-with_bits c (qubits_of g) y ∙ ec)))
     ∙ right_stepped n g s (vector_in d f) r c is er ec
 
 -- a working matrix whose product is the step's vector, halved

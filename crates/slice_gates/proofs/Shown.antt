@@ -6,7 +6,7 @@ use Rattle.ring_omega.specs.Ring.{product_of, times_power}
 use Rattle.ring_omega.proofs.RingLemmas.{quad_eq}
 use Rattle.gate_set.specs.declared.gate.Gate.{Gate}
 use Rattle.gate_set.specs.declared.kind.Kind.{Kind}
-use Rattle.gate_set.specs.declared.kind.Kind.TheVariants.{Id, X, Y, Z, H, S, Sdg, T, Tdg, RxP, RxM, RyP, RyM, Cx, Cz, Swap, Ccx, Cswap}
+use Rattle.gate_set.specs.declared.kind.Kind.TheVariants.{Id, X, Y, Z, H, S, Sdg, T, Tdg, RxP, RxM, RyP, RyM, Cx, Cz, Swap, Ccx, Cswap, Phase}
 use Rattle.gate_set.specs.Matrix.{half_power_of}
 use Rattle.circuit_model.specs.Product.{applied}
 use Rattle.circuit_model.specs.Working.{Scaled, scaled, two, IsHalved, halved, raw, step}
@@ -190,6 +190,7 @@ few_halves Cz = omega arith
 few_halves Swap = omega arith
 few_halves Ccx = omega arith
 few_halves Cswap = omega arith
+few_halves (Phase j) = omega arith
 
 pub one_half : (n : ℕ) (g : Gate) (s : Step) → IsStepOf n State g s → half_of s ≤ 1
 one_half n g s is = let few = few_halves g.kind in let half = is.half in omega (arith, few, half)

@@ -1,11 +1,12 @@
 -- Which step a gate is.
-use Rattle.std.specs.Prelude.{◌≡◌, ◌<◌, ℕ, ◌-◌, ◌^◌, Bool, true, false, cond, List, [], ◌∷◌, length, map, take, set, get_or, replicate, fold}
+use Rattle.std.specs.Prelude.{◌≡◌, ◌<◌, ℕ, ◌-◌, ◌^◌, ◌==◌, Bool, true, false, cond, List, [], ◌∷◌, length, map, take, set, get_or, replicate, fold}
 use Rattle.diagram_model.specs.Functions.{Assignment, bit}
 use Rattle.gate_set.specs.declared.entry.Entry.{Entry}
 use Rattle.gate_set.specs.declared.gate.Gate.{Gate}
 use Rattle.gate_set.specs.declared.kind.Kind.{Kind}
 use Rattle.gate_set.specs.declared.kind.Kind.TheVariants.{Swap, Cswap}
 use Rattle.gate_set.specs.Matrix.{half_power_of, arity_of}
+use Rattle.gate_set.specs.Shape.{qubits_of, arity_with}
 use Rattle.slice_quad.specs.declared.gate.Target.{Target}
 use Rattle.slice_quad.specs.declared.kind.Step.{Step}
 use Rattle.slice_quad.specs.declared.kind.Step.TheVariants as steps
@@ -27,15 +28,16 @@ unfoldable pub controls_for : ℕ → List ℕ → List Bool
 controls_for n on = fold (λ cs q. set cs q true) (replicate n false) on
 
 -- ---- which step a gate is, on n variables
--- its last qubit is the target, with the last two rows of the kind's matrix, and the others are controls
+-- its last qubit is the target, with the last two rows of the kind's matrix, and the others, further controls among them, are controls
 abbrev pub target_for : ℕ → Side → Gate → Target
 target_for n side g = record {
-  controls = controls_for n (take (arity_of g.kind - 1) (map (place_on side) g.on));
-  target = get_or (map (place_on side) g.on) (arity_of g.kind - 1) 0;
+  controls = controls_for n (take (arity_with g - 1) (map (place_on side) (qubits_of g)));
+  target = get_or (map (place_on side) (qubits_of g)) (arity_with g - 1) 0;
   low_low = entry_on side g.kind (2 ^ arity_of g.kind - 2) (2 ^ arity_of g.kind - 2);
   low_high = entry_on side g.kind (2 ^ arity_of g.kind - 2) (2 ^ arity_of g.kind - 1);
   high_low = entry_on side g.kind (2 ^ arity_of g.kind - 1) (2 ^ arity_of g.kind - 2);
   high_high = entry_on side g.kind (2 ^ arity_of g.kind - 1) (2 ^ arity_of g.kind - 1);
+  rooted = half_power_of g.kind == 1;
 }
 
 -- the rows of a target's matrix
@@ -48,8 +50,8 @@ mix_for n side g = steps.Mix (target_for n side g).controls (target_for n side g
 -- its last two qubits are exchanged, and the others are controls
 abbrev pub pair_for : ℕ → Side → Gate → Step
 pair_for n side g =
-    steps.Exchange (controls_for n (take (arity_of g.kind - 2) (map (place_on side) g.on)))
-    (get_or (map (place_on side) g.on) (arity_of g.kind - 2) 0) (get_or (map (place_on side) g.on) (arity_of g.kind - 1) 0)
+    steps.Exchange (controls_for n (take (arity_with g - 2) (map (place_on side) (qubits_of g))))
+    (get_or (map (place_on side) (qubits_of g)) (arity_with g - 2) 0) (get_or (map (place_on side) (qubits_of g)) (arity_with g - 1) 0)
 
 abbrev pub step_for : ℕ → Side → Gate → Step
 step_for n side g = cond (exchanges g.kind) (pair_for n side g) (mix_for n side g)

@@ -1,5 +1,6 @@
 //! One gate on a state.
 ghost use Rattle.std.specs.Prelude.{◌≡◌, ◌-◌, ◌<◌, ◌≤◌, ◌^◌, IfErr, OnOk, OnErr, All, length};
+ghost use Rattle.gate_set.specs.Shape.{qubits_of};
 ghost use Rattle.circuit_model.specs.Working.{Scaled, FitsWidth, raw, step as next};
 ghost use Rattle.slice_vec.specs.Growing.{Grows};
 ghost use Rattle.slice_quad.specs.Stops.{OnWidth, QuadStopIs};
@@ -24,7 +25,7 @@ pub fn gate_step(
     width: u8,
 ) -> Result<(), QuadStop>
     requires stands { Stands d.old.store q.old }
-    requires below { All (λ q. q < length d.old.store.order) gate.now.on }
+    requires below { All (λ q. q < length d.old.store.order) (qubits_of gate.now) }
     requires least { 2 ≤ width }
     requires greatest { width ≤ 128 }
     requires exponent { q.old.exponent < 2 ^ 32 - 1 }

@@ -6,7 +6,7 @@ use Rattle.diagram_model.specs.Stores.{function_of}
 use Rattle.diagram_ops.specs.Diagrams.{StoreAndCache, IsConsistent}
 use Rattle.diagram_ops.specs.Made.{Property, StopIs, IsPrefixOfSome}
 use Rattle.gate_set.specs.declared.entry.Entry.{Entry}
-use Rattle.gate_set.specs.declared.entry.Entry.TheVariants.{Zero, Omega}
+use Rattle.gate_set.specs.declared.entry.Entry.TheVariants.{Zero, Omega, Root2}
 use Rattle.slice_vec.specs.Digits.{Digits, chosen, one_carry, negated}
 use Rattle.slice_vec.specs.Growing.{Grows, Denotes}
 use Rattle.slice_vec.specs.Slices.{StandsIn, digits_of, first_bits, negation_functions, IsChosen, IsNegation, InChosen, InNegation}
@@ -21,7 +21,7 @@ use Rattle.slice_quad.specs.Turns.{turn}
 use Rattle.slice_quad.specs.Mix.{Mix, Coordinates, all_true, zero_digits, entry_digits, entry_negates}
 use Rattle.slice_quad.specs.Fours.{nodes_of, digits_in, mix_of, AreIntegers, AreItsNodes}
 use Rattle.slice_quad.specs.Terms.{IsOf, IsColumn, nodes_brought}
-use Rattle.slice_quad.specs.Column.{where_negated, column_target, column_term, column_negates, column_signed, column_functions}
+use Rattle.slice_quad.specs.Column.{where_signed, column_target, column_term, column_negates, column_signed, column_functions}
 use Rattle.slice_quad.proofs.Gates.{nodes_on}
 
 -- what is given of a column and of the coordinates that it is applied to
@@ -38,17 +38,20 @@ pub record IsGiven (u : StoreAndCache) (g : Gate) (f : Four) (os zs : List ℕ) 
 pub brought_stands : (u v : StoreAndCache) (Is : Property) (g : Gate) (f : Four) (os zs : List ℕ) (e : Entry) (z : Coord) → IsGiven u g f os zs → Grows u Is v → StandsIn v.store (nodes_brought e z f zs)
 brought_stands u v Is g f os zs Zero z h k = stands_on u v Is zs k h.zero
 brought_stands u v Is g f os zs (Omega j) z h k = stands_on u v Is (nodes_of f (turn j z).from) k (h.from.stands (turn j z).from)
+brought_stands u v Is g f os zs Root2 z h k = stands_on u v Is zs k h.zero
 
 -- what an entry brings, as bits of the start
 pub brought_digits : (u v : StoreAndCache) (Is : Property) (g : Gate) (f : Four) (os zs : List ℕ) (e : Entry) (z : Coord) → IsGiven u g f os zs → Grows u Is v → digits_of v.store (nodes_brought e z f zs) ≡ entry_digits e z (digits_in u.store f)
 unfolding entry_digits digits_in
 brought_digits u v Is g f os zs Zero z h k = digits_on u v Is zs h.sound k h.zero ∙ h.zeros
 brought_digits u v Is g f os zs (Omega j) z h k = digits_on u v Is (nodes_of f (turn j z).from) h.sound k (h.from.stands (turn j z).from)
+brought_digits u v Is g f os zs Root2 z h k = digits_on u v Is zs h.sound k h.zero ∙ h.zeros
 
 -- it is as wide as the others
 pub brought_width : (u : StoreAndCache) (g : Gate) (f : Four) (os zs : List ℕ) (e : Entry) (z : Coord) → IsGiven u g f os zs → length (nodes_brought e z f zs) ≡ length os
 brought_width u g f os zs Zero z h = h.zero_width
 brought_width u g f os zs (Omega j) z h = h.from.width (turn j z).from
+brought_width u g f os zs Root2 z h = h.zero_width
 
 -- the same choice of the same bits
 chosen_same : (n m : Function) (a b a2 b2 : Digits) → n ≡ m → a ≡ a2 → b ≡ b2 → chosen n a b ≡ chosen m a2 b2
@@ -63,36 +66,36 @@ pub negation_same : (v w : ℕ) (f g : Function) (a b : Digits) → v ≡ w → 
 negation_same v w f g a b ev ef ea = ap (λ j. negation_functions j f a) ev ∙ ap (λ (h : Function). negation_functions w h a) ef ∙ ap (λ (s : Digits). negation_functions w g s) ea
 
 -- the functions of a column are among those that are listed
-module _ (vs : List ℕ) (w : ℕ) (m : Mix) (low high : Entry) (f : Coordinates) (o : Digits) (z : Coord) (p : Function) where
+module _ (vs : List ℕ) (w : ℕ) (m : Mix) (low high : Entry) (out : Bool) (f : Coordinates) (o : Digits) (z : Coord) (p : Function) where
   abbrev whole : Type 0
-  whole = IsPrefixOfSome vs (column_functions w m low high f o z) p
+  whole = IsPrefixOfSome vs (column_functions w m low high out f o z) p
 
   abbrev tail : List Function
-  tail = first_bits (w + 1) (one_carry (column_negates m low high z) (column_term m low high f o z)) ++ first_bits (w + 1) (column_signed m low high f o z)
+  tail = first_bits (w + 1) (one_carry (column_negates m low high out z) (column_term m low high f o z)) ++ first_bits (w + 1) (column_signed m low high out f o z)
 
   pub in_target : IsPrefixOfSome vs (first_bits w (column_target m low high f z)) p → whole
   unfolding column_functions
-  in_target h = some_left vs (first_bits w (column_target m low high f z)) (first_bits w (column_term m low high f o z) ++ (column_negates m low high z ∷ tail)) p h
+  in_target h = some_left vs (first_bits w (column_target m low high f z)) (first_bits w (column_term m low high f o z) ++ (column_negates m low high out z ∷ tail)) p h
 
   pub in_term : IsPrefixOfSome vs (first_bits w (column_term m low high f o z)) p → whole
   unfolding column_functions
   in_term h =
-      some_right vs (first_bits w (column_target m low high f z)) (first_bits w (column_term m low high f o z) ++ (column_negates m low high z ∷ tail)) p
-      (some_left vs (first_bits w (column_term m low high f o z)) (column_negates m low high z ∷ tail) p h)
+      some_right vs (first_bits w (column_target m low high f z)) (first_bits w (column_term m low high f o z) ++ (column_negates m low high out z ∷ tail)) p
+      (some_left vs (first_bits w (column_term m low high f o z)) (column_negates m low high out z ∷ tail) p h)
 
-  pub in_sign : IsPrefixOf vs (column_negates m low high z) p → whole
+  pub in_sign : IsPrefixOf vs (column_negates m low high out z) p → whole
   unfolding column_functions
   in_sign h =
-      some_right vs (first_bits w (column_target m low high f z)) (first_bits w (column_term m low high f o z) ++ (column_negates m low high z ∷ tail)) p
-      (some_right vs (first_bits w (column_term m low high f o z)) (column_negates m low high z ∷ tail) p
-      (some_first vs (column_negates m low high z) tail p h))
+      some_right vs (first_bits w (column_target m low high f z)) (first_bits w (column_term m low high f o z) ++ (column_negates m low high out z ∷ tail)) p
+      (some_right vs (first_bits w (column_term m low high f o z)) (column_negates m low high out z ∷ tail) p
+      (some_first vs (column_negates m low high out z) tail p h))
 
-  pub in_negation : IsPrefixOfSome vs (negation_functions (w + 1) (column_negates m low high z) (column_term m low high f o z)) p → whole
+  pub in_negation : IsPrefixOfSome vs (negation_functions (w + 1) (column_negates m low high out z) (column_term m low high f o z)) p → whole
   unfolding column_functions column_signed
   in_negation h =
-      some_right vs (first_bits w (column_target m low high f z)) (first_bits w (column_term m low high f o z) ++ (column_negates m low high z ∷ tail)) p
-      (some_right vs (first_bits w (column_term m low high f o z)) (column_negates m low high z ∷ tail) p
-      (some_later vs (column_negates m low high z) tail p h))
+      some_right vs (first_bits w (column_target m low high f z)) (first_bits w (column_term m low high f o z) ++ (column_negates m low high out z ∷ tail)) p
+      (some_right vs (first_bits w (column_term m low high f o z)) (column_negates m low high out z ∷ tail) p
+      (some_later vs (column_negates m low high out z) tail p h))
 
 -- the four calls
 module _ (u : StoreAndCache) (g : Gate) (c : Column) (f : Four) (os zs : List ℕ) (z : Coord) (h : IsGiven u g f os zs) where
@@ -100,7 +103,7 @@ module _ (u : StoreAndCache) (g : Gate) (c : Column) (f : Four) (os zs : List �
   Is = IsColumn u.store g.target c f os z
 
   abbrev sign_of : Function
-  sign_of = column_negates (mix_of g.target) c.low c.high z
+  sign_of = column_negates (mix_of g.target) c.low c.high c.out z
 
   abbrev target_of : Digits
   target_of = column_target (mix_of g.target) c.low c.high (digits_in u.store f) z
@@ -109,20 +112,20 @@ module _ (u : StoreAndCache) (g : Gate) (c : Column) (f : Four) (os zs : List �
   term_of = column_term (mix_of g.target) c.low c.high (digits_in u.store f) (digits_of u.store os) z
 
   sign_wanted : (p : Function) → IsPrefixOf u.store.order sign_of p → Is p
-  sign_wanted p q = in_sign u.store.order (length os) (mix_of g.target) c.low c.high (digits_in u.store f) (digits_of u.store os) z p q
+  sign_wanted p q = in_sign u.store.order (length os) (mix_of g.target) c.low c.high c.out (digits_in u.store f) (digits_of u.store os) z p q
 
   target_wanted : (p : Function) → IsPrefixOfSome u.store.order (first_bits (length os) target_of) p → Is p
-  target_wanted p q = in_target u.store.order (length os) (mix_of g.target) c.low c.high (digits_in u.store f) (digits_of u.store os) z p q
+  target_wanted p q = in_target u.store.order (length os) (mix_of g.target) c.low c.high c.out (digits_in u.store f) (digits_of u.store os) z p q
 
   term_wanted : (p : Function) → IsPrefixOfSome u.store.order (first_bits (length os) term_of) p → Is p
-  term_wanted p q = in_term u.store.order (length os) (mix_of g.target) c.low c.high (digits_in u.store f) (digits_of u.store os) z p q
+  term_wanted p q = in_term u.store.order (length os) (mix_of g.target) c.low c.high c.out (digits_in u.store f) (digits_of u.store os) z p q
 
   negation_wanted : (p : Function) → IsPrefixOfSome u.store.order (negation_functions (length os + 1) sign_of term_of) p → Is p
-  negation_wanted p q = in_negation u.store.order (length os) (mix_of g.target) c.low c.high (digits_in u.store f) (digits_of u.store os) z p q
+  negation_wanted p q = in_negation u.store.order (length os) (mix_of g.target) c.low c.high c.out (digits_in u.store f) (digits_of u.store os) z p q
 
   -- the sign
-  pub sign_same : (low high : Bool) → low ≡ entry_negates c.low z → high ≡ entry_negates c.high z → where_negated (mix_of g.target) low high ≡ sign_of
-  sign_same low high el eh = ap (λ b. where_negated (mix_of g.target) b high) el ∙ ap (λ b. where_negated (mix_of g.target) (entry_negates c.low z) b) eh
+  pub sign_same : (low high : Bool) → low ≡ entry_negates c.low z → high ≡ entry_negates c.high z → where_signed (mix_of g.target) low high c.out ≡ sign_of
+  sign_same low high el eh = ap (λ b. where_signed (mix_of g.target) b high c.out) el ∙ ap (λ b. where_signed (mix_of g.target) (entry_negates c.low z) b c.out) eh
 
   pub sign_grows : (v : StoreAndCache) (s : Function) → s ≡ sign_of → Grows u (IsPrefixOf u.store.order s) v → Grows u Is v
   sign_grows v s e k = grows_call u u v Is s sign_of (grows_none u Is h.sound) k e sign_wanted
@@ -194,7 +197,7 @@ module _ (u : StoreAndCache) (g : Gate) (c : Column) (f : Four) (os zs : List �
   negation_stops v w n rs k sign is why stop =
       stop_calls u v w Is (negation_functions (length rs + 1) (function_of v.store n) (digits_of v.store rs)) (negation_functions (length os + 1) sign_of term_of) k (negation_list v n rs sign is) negation_wanted why stop
 
-  pub negation_is : (v w : StoreAndCache) (n : ℕ) (rs ps : List ℕ) → Denotes v.store n sign_of → IsOf v.store (length os) term_of rs → IsNegation v.store w.store n rs ps → IsOf w.store (length os + 1) (column_signed (mix_of g.target) c.low c.high (digits_in u.store f) (digits_of u.store os) z) ps
+  pub negation_is : (v w : StoreAndCache) (n : ℕ) (rs ps : List ℕ) → Denotes v.store n sign_of → IsOf v.store (length os) term_of rs → IsNegation v.store w.store n rs ps → IsOf w.store (length os + 1) (column_signed (mix_of g.target) c.low c.high c.out (digits_in u.store f) (digits_of u.store os) z) ps
   unfolding column_signed
   negation_is v w n rs ps sign is made = record {
     stands = made.stands;

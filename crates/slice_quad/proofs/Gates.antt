@@ -9,15 +9,15 @@ use Rattle.diagram_ops.specs.Diagrams.{StoreAndCache, IsConsistent}
 use Rattle.diagram_ops.specs.Made.{Property}
 use Rattle.slice_vec.specs.Growing.{Grows, Denotes}
 use Rattle.slice_vec.proofs.Growing.{denotes_on, denotes_as}
-use Rattle.slice_vec.proofs.Places.{false_function}
+use Rattle.slice_vec.proofs.Places.{false_function, true_function}
 use Rattle.slice_quad.specs.declared.gate.Gate.{Gate}
 use Rattle.gate_set.specs.declared.entry.Entry.{Entry}
-use Rattle.gate_set.specs.declared.entry.Entry.TheVariants.{Zero, Omega}
+use Rattle.gate_set.specs.declared.entry.Entry.TheVariants.{Zero, Omega, Root2}
 use Rattle.slice_quad.specs.declared.coord.Coord.{Coord}
 use Rattle.slice_quad.specs.Turns.{turn}
 use Rattle.slice_quad.specs.Mix.{Mix, all_true, entry_negates}
 use Rattle.slice_quad.specs.Fours.{mix_of, AreItsNodes}
-use Rattle.slice_quad.specs.Column.{where_negated}
+use Rattle.slice_quad.specs.Column.{by_target, where_negated, where_signed}
 
 -- the table 192 of two functions is "and"
 both_table : (a b : Bool) → connective 192 a b false ≡ (a && b)
@@ -115,7 +115,68 @@ pub negates_zero : (e : Entry) (z : Coord) → e ≡ Zero → false ≡ entry_ne
 unfolding entry_negates
 negates_zero e z is = sym (ap (λ (f : Entry). entry_negates f z) is)
 
+-- nor does √2, which no row has
+pub negates_root : (e : Entry) (z : Coord) → e ≡ Root2 → false ≡ entry_negates e z
+unfolding entry_negates
+negates_root e z is = sym (ap (λ (f : Entry). entry_negates f z) is)
+
 -- a power of ω negates as its turn says
 pub negates_omega : (e : Entry) (j : ℕ) (z : Coord) → e ≡ Omega j → (turn j z).negated ≡ entry_negates e z
 unfolding entry_negates
 negates_omega e j z is = sym (ap (λ (f : Entry). entry_negates f z) is)
+
+-- ---- and elsewhere
+-- the table 207 of two functions is "the second, or not the first"
+implied_table : (a b : Bool) → connective 207 a b false ≡ cond a b true
+unfolding connective
+implied_table true true = refl
+implied_table true false = refl
+implied_table false true = refl
+implied_table false false = refl
+
+row_same : (m : Mix) (low high l h : Bool) → low ≡ l → high ≡ h → by_target m l h ≡ by_target m low high
+row_same m low high l h el eh = sym (ap (λ b. by_target m b high) el ∙ ap (λ b. by_target m l b) eh)
+
+module _ (d : Diagram) (g : Gate) (low high : Bool) (s : IsSound d) (n : AreItsNodes d g) where
+  abbrev M : Mix
+  M = mix_of g.target
+
+  pub row_both : low ≡ true → high ≡ true → Denotes d 1 (by_target M low high)
+  unfolding by_target
+  row_both el eh = record {
+    live = inl (let h : 1 < 2 = omega arith in h);
+    is = true_function d s ∙ fun_ext (λ x. sym (either (x g.target.target) true)) ∙ row_same M low high true true el eh;
+  }
+
+  pub row_low : low ≡ true → high ≡ false → Denotes d g.is_clear.0 (by_target M low high)
+  unfolding by_target
+  row_low el eh = denotes_as d g.is_clear.0 (λ x. not (x g.target.target)) (by_target M low high) (fun_ext (λ x. sym (cond_not (x g.target.target))) ∙ row_same M low high true false el eh) n.other
+
+  pub row_high : low ≡ false → high ≡ true → Denotes d g.is_set.0 (by_target M low high)
+  unfolding by_target
+  row_high el eh = denotes_as d g.is_set.0 (λ x. x g.target.target) (by_target M low high) (fun_ext (λ x. sym (cond_same (x g.target.target))) ∙ row_same M low high false true el eh) n.target
+
+  pub row_none : low ≡ false → high ≡ false → Denotes d 0 (by_target M low high)
+  unfolding by_target
+  row_none el eh = record {
+    live = inl (let h : 0 < 2 = omega arith in h);
+    is = false_function d s ∙ fun_ext (λ x. sym (either (x g.target.target) false)) ∙ row_same M low high false false el eh;
+  }
+
+  -- the node where the controls hold in the row, and everywhere else
+  pub where_out : (r : ℕ) (out : Bool) → out ≡ true → Denotes d r (by_target M low high) → connected 207 (function_of d g.all.0) (function_of d r) (function_of d 0) ≡ where_signed M low high out
+  unfolding connected by_target where_signed
+  where_out r out on h =
+      ap (λ (w : Function). connected 207 w (function_of d r) (function_of d 0)) n.all.is
+      ∙ ap (λ (w : Function). connected 207 (all_true M.controls) w (function_of d 0)) h.is
+      ∙ ap (λ (w : Function). connected 207 (all_true M.controls) (by_target M low high) w) (false_function d s)
+      ∙ fun_ext (λ x. implied_table (all_true M.controls x) (cond (x g.target.target) high low) ∙ sym (ap (cond (all_true M.controls x) (cond (x g.target.target) high low)) on))
+
+-- where it isn't negated elsewhere
+pub where_in : (m : Mix) (low high out : Bool) → out ≡ false → where_negated m low high ≡ where_signed m low high out
+unfolding where_negated where_signed
+where_in m low high out off = fun_ext (λ x. both (all_true m.controls x) (cond (x m.target) high low) ∙ sym (ap (cond (all_true m.controls x) (cond (x m.target) high low)) off))
+  where
+    both : (a b : Bool) → (a && b) ≡ cond a b false
+    both true b = refl
+    both false b = refl

@@ -12,7 +12,7 @@ use Rattle.slice_quad.specs.declared.four.Four.{Four}
 use Rattle.slice_quad.specs.declared.gate.Target.{Target}
 use Rattle.gate_set.specs.declared.entry.Entry.{Entry}
 use Rattle.gate_set.specs.declared.entry.Entry.TheVariants.{Zero, Omega}
-use Rattle.gate_set.specs.Matrix.{IsReduced}
+use Rattle.gate_set.specs.Matrix.{IsPower}
 use Rattle.slice_quad.specs.Turning.{IsTurning}
 use Rattle.slice_quad.specs.Turns.{turn}
 use Rattle.slice_quad.specs.Mix.{negates}
@@ -58,6 +58,7 @@ here_wanted d t j q r some few whole p h =
 -- what a diagonal gate takes, in a larger store
 pub diagonal_on : (u v : StoreAndCache) (Is : Property) (t : Target) (j h : ℕ) (q : Four) (zs : List ℕ) → IsConsistent u → Grows u Is v → IsDiagonal u.store t j h q zs → IsDiagonal v.store t j h q zs
 diagonal_on u v Is t j h q zs s k r = record {
+  rooted = r.rooted;
   low_low = r.low_low;
   low_high = r.low_high;
   high_low = r.high_low;
@@ -71,9 +72,9 @@ diagonal_on u v Is t j h q zs s k r = record {
 }
 
 -- the entries, by the test
-pub reduced_small : (e : Entry) (j : ℕ) → e ≡ Omega j → IsReduced e → j ≤ 7
-reduced_small e j is r = subst (λ (f : Entry). IsReduced f) is r
+pub reduced_small : (e : Entry) (j : ℕ) → e ≡ Omega j → IsPower e → j ≤ 7
+reduced_small e j is r = subst (λ (f : Entry). IsPower f) is r
 
 -- the rows of such a gate
-pub rows_of : (t : Target) (j : ℕ) → IsTurning t j → IsOnDiagonal t j
-rows_of t j r = record { low_low = r.low_low; low_high = r.low_high; high_low = r.high_low; high_high = r.high_high }
+pub rows_of : (t : Target) (j : ℕ) → IsTurning t j → j ≤ 7 → IsOnDiagonal t j
+rows_of t j r small = record { rooted = r.rooted; small = small; low_low = r.low_low; low_high = r.low_high; high_low = r.high_low; high_high = r.high_high }

@@ -21,7 +21,7 @@ use Rattle.slice_quad.specs.Fours.{nodes_of, digits_in, mix_of, AreIntegers}
 use Rattle.slice_quad.specs.Raws.{AreReduced, IsMix, AreRaw}
 use Rattle.slice_quad.specs.Vectors.{vector_in, AreValues}
 use Rattle.slice_quad.specs.Variables.{IsGate}
-use Rattle.slice_quad.proofs.Raws.{mix_grows, digits_in_on, integers_on}
+use Rattle.slice_quad.proofs.Raws.{powers_of, mix_grows, digits_in_on, integers_on}
 use Rattle.slice_quad.proofs.Wanted.{wanted_gate}
 use Rattle.slice_quad.specs.Work.{mix_functions}
 use Rattle.slice_quad.proofs.RawValues.{raw_values, values_as, vector_bits}
@@ -72,9 +72,9 @@ module _ (u v : StoreAndCache) (t r : Target) (q : Four) (s : IsConsistent u) (h
   pub raw_stops : (w : StoreAndCache) (why : StoreStop) → StopIs w.store (IsMix v.store r q) why → StopIs w.store (IsMix u.store t q) why
   raw_stops w why stop = stop_wider w.store (IsMix v.store r q) (IsMix u.store t q) mix_wider why stop
 
-  pub raw_vector : (d : Diagram) (f : Four) → AreRaw d (length q.a) (raw (mix_of r) (digits_in v.store q)) f → 1 ≤ length q.a → AreValues d (mixed (mix_of t) V) f
-  raw_vector d f is some =
+  pub raw_vector : (d : Diagram) (f : Four) → AreReduced r → AreRaw d (length q.a) (raw (mix_of r) (digits_in v.store q)) f → 1 ≤ length q.a → AreValues d (mixed (mix_of t) V) f
+  raw_vector d f powers is some =
       let whole = integers_on u v (IsMix u.store t q) (length q.a) q k h in
-      let values : AreValues d (mixed (mix_of r) (vector_of (length q.a - 1) (digits_in v.store q))) f = raw_values v.store d (mix_of r) q f whole some is in
+      let values : AreValues d (mixed (mix_of r) (vector_of (length q.a - 1) (digits_in v.store q))) f = raw_values v.store d (mix_of r) q f (powers_of r powers) whole some is in
       let given : AreValues d (mixed (mix_of r) (vector_in v.store q)) f = values_as d (mix_of r) (vector_of (length q.a - 1) (digits_in v.store q)) (vector_in v.store q) f (fun_ext (λ x. vector_bits v.store (length q.a) q whole x)) values in
       rw (sym same) given

@@ -9,6 +9,7 @@ use Rattle.slice_vec.proofs.Bits.{steady-digits, value_on}
 use Rattle.slice_quad.specs.declared.coord.Coord.{Coord}
 use Rattle.slice_quad.specs.declared.coord.Coord.TheVariants.{A, B, C, D}
 use Rattle.slice_quad.specs.declared.four.Four.{Four}
+use Rattle.gate_set.specs.Matrix.{IsPower}
 use Rattle.slice_quad.specs.Turns.{coordinate}
 use Rattle.slice_quad.specs.Mix.{Mix, Vector, Coordinates, vector_of, mixed, raw}
 use Rattle.slice_quad.specs.Fours.{nodes_of, digits_in, AreIntegers}
@@ -27,8 +28,8 @@ pub vector_bits : (d : Diagram) (n : ℕ) (q : Four) → AreIntegers d n q → (
 unfolding vector_of
 vector_bits d n q h x = rw (value_wide d n q A x h, value_wide d n q B x h, value_wide d n q C x h, value_wide d n q D x h) refl
 
-pub raw_values : (d e : Diagram) (m : Mix) (q f : Four) → AreIntegers d (length q.a) q → 1 ≤ length q.a → AreRaw e (length q.a) (raw m (digits_in d q)) f → AreValues e (mixed m (vector_of (length q.a - 1) (digits_in d q))) f
-raw_values d e m q f h some r = record {
+pub raw_values : (d e : Diagram) (m : Mix) (q f : Four) → ((r s : Bool) → IsPower (m.rows r s)) → AreIntegers d (length q.a) q → 1 ≤ length q.a → AreRaw e (length q.a) (raw m (digits_in d q)) f → AreValues e (mixed m (vector_of (length q.a - 1) (digits_in d q))) f
+raw_values d e m q f powers h some r = record {
   stands = λ z. (r z).stands;
   values = λ z x.
       let k = length q.a - 1 in
@@ -40,7 +41,7 @@ raw_values d e m q f h some r = record {
       let steady : IsSteady (length ns - 1) (digits_of e ns) = steady-digits e ns begin in
       sym (value_on (length ns - 1) (suc (suc k)) (digits_of e ns) x steady (omega (arith, wide, begin, some)))
       ∙ ap (λ (a : Digits). slice_value (suc (suc k)) a x) is.digits
-      ∙ raw-value m k (digits_in d q) z x (steady_in d (length q.a) q h);
+      ∙ raw-value m k (digits_in d q) z x powers (steady_in d (length q.a) q h);
 }
 
 pub values_as : (e : Diagram) (m : Mix) (v w : Vector) (f : Four) → v ≡ w → AreValues e (mixed m v) f → AreValues e (mixed m w) f

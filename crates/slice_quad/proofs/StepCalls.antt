@@ -39,10 +39,10 @@ use Rattle.slice_quad.proofs.DiagonalCalls.{steady_in}
 use Rattle.slice_quad.proofs.RawValues.{vector_bits}
 
 -- ---- by kinds
-pub reduced_target : (controls : List Bool) (target : ℕ) (rows : List (List Entry)) → AreReducedRows rows → AreReduced (target_with controls target rows)
-reduced_target controls target rows h = record { low_low = h.low_low; low_high = h.low_high; high_low = h.high_low; high_high = h.high_high }
+pub reduced_target : (controls : List Bool) (target : ℕ) (rows : List (List Entry)) (half : ℕ) → AreReducedRows rows → AreReduced (target_with controls target rows half)
+reduced_target controls target rows half h = record { low_low = h.low_low; low_high = h.low_high; high_low = h.high_low; high_high = h.high_high }
 
-module _ (s : Step) (controls : List Bool) (target : ℕ) (rows : List (List Entry)) (half : ℕ) (t : Target) (q : Four) (is : s ≡ steps.Mix controls target rows half) (same : t ≡ target_with controls target rows) where
+module _ (s : Step) (controls : List Bool) (target : ℕ) (rows : List (List Entry)) (half : ℕ) (t : Target) (q : Four) (is : s ≡ steps.Mix controls target rows half) (same : t ≡ target_with controls target rows half) where
   pub mix_values : (o : Result Four StoreStop) (d : Diagram) (v : Vector) → IfOk o (AreValues d (mixed (mix_of t) v)) → IfOk o (AreValues d (stepped s v))
   mix_values o d v h = subst (λ r. IfOk o (AreValues d (stepped r v))) (sym is) (subst (λ r. IfOk o (AreValues d (mixed (mix_of r) v))) same h)
 

@@ -34,7 +34,7 @@ true_places n (b ∷ x) = cond b (n ∷ true_places (1 + n) x) (true_places (1 +
 
 -- a gate with one target as a matrix and controls
 abbrev pub mix_of : Target → Mix
-mix_of t = record { controls = true_places 0 t.controls; target = t.target; rows = λ r s. cond r (cond s t.high_high t.high_low) (cond s t.low_high t.low_low) }
+mix_of t = record { controls = true_places 0 t.controls; target = t.target; rows = λ r s. cond r (cond s t.high_high t.high_low) (cond s t.low_high t.low_low); rooted = t.rooted }
 
 -- the nodes are those of the target's variable, of its negation, and of "all controls are true"
 pub record AreItsNodes (d : Diagram) (g : Gate) : Type 0 where

@@ -3,7 +3,7 @@ use Rattle.std.specs.Prelude.{◌≡◌, ℕ, ◌+◌, ◌<◌, ◌≤◌, Bool,
 use Rattle.diagram_model.specs.Stores.{Diagram}
 use Rattle.diagram_ops.specs.Made.{Property, IsPrefixOfSome}
 use Rattle.gate_set.specs.declared.entry.Entry.TheVariants.{Zero, Omega}
-use Rattle.gate_set.specs.Matrix.{IsReduced}
+use Rattle.gate_set.specs.Matrix.{IsPower}
 use Rattle.slice_vec.specs.Growing.{Denotes}
 use Rattle.slice_quad.specs.Column.{where_negated}
 use Rattle.slice_vec.specs.Digits.{Digits, fixed}
@@ -22,12 +22,12 @@ pub record IsHalf (d : Diagram) (v : ℕ) (b : Bool) (q f : Four) : Type 0 where
   pub integers : AreIntegers d (length q.a) f
   pub digits : (z : Coord) → digits_of d (nodes_of f z) ≡ fixed v b (digits_of d (nodes_of q z))
 
--- each power of ω is at most the seventh
+-- each entry is zero or a power of ω, at most the seventh
 pub record AreReduced (t : Target) : Type 0 where
-  pub low_low : IsReduced t.low_low
-  pub low_high : IsReduced t.low_high
-  pub high_low : IsReduced t.high_low
-  pub high_high : IsReduced t.high_high
+  pub low_low : IsPower t.low_low
+  pub low_high : IsPower t.low_high
+  pub high_low : IsPower t.high_low
+  pub high_high : IsPower t.high_high
 
 -- zero with as many bits as q
 pub record IsZeroFor (d : Diagram) (q : Four) (zs : List ℕ) : Type 0 where
@@ -59,8 +59,9 @@ pub record IsRaw (d : Diagram) (w : ℕ) (s : Digits) (ns : List ℕ) : Type 0 w
 abbrev pub AreRaw : Diagram → ℕ → Coordinates → Four → Type 0
 AreRaw d w r f = (z : Coord) → IsRaw d w (r z) (nodes_of f z)
 
--- the matrix is 1 and the j-th power of ω on the diagonal, and the node h is true where the power is taken
+-- the matrix is 1 and the j-th power of ω on the diagonal, with no factor 1/√2, and the node h is true where the power is taken
 pub record IsDiagonal (d : Diagram) (t : Target) (j h : ℕ) (q : Four) (zs : List ℕ) : Type 0 where
+  pub rooted : t.rooted ≡ false
   pub low_low : t.low_low ≡ Omega 0
   pub low_high : t.low_high ≡ Zero
   pub high_low : t.high_low ≡ Zero
@@ -74,6 +75,7 @@ pub record IsDiagonal (d : Diagram) (t : Target) (j h : ℕ) (q : Four) (zs : Li
 
 -- the matrix of X
 pub record IsFlip (t : Target) : Type 0 where
+  pub rooted : t.rooted ≡ false
   pub low_low : t.low_low ≡ Zero
   pub low_high : t.low_high ≡ Omega 0
   pub high_low : t.high_low ≡ Omega 0

@@ -1,5 +1,5 @@
--- The coordinates of a quadruple times a power of ω.
-use Rattle.std.specs.Prelude.{ℕ, zero, suc, ℤ, neg_ℤ, Bool, false, not, cond}
+-- The coordinates of a quadruple times a power of ω, and times √2.
+use Rattle.std.specs.Prelude.{ℕ, zero, suc, ℤ, neg_ℤ, Bool, true, false, not, cond}
 use Rattle.ring_omega.specs.declared.quad.Quad.{Quad}
 use Rattle.slice_quad.specs.declared.coord.Coord.{Coord}
 use Rattle.slice_quad.specs.declared.coord.Coord.TheVariants.{A, B, C, D}
@@ -23,6 +23,17 @@ turn (suc j) A = turn j B
 turn (suc j) B = turn j C
 turn (suc j) C = turn j D
 turn (suc j) D = flip (turn j A)
+
+-- the two coordinates that √2 adds up to z, the first and the second: √2(a,b,c,d) is (b-d, a+c, b+d, c-a)
+abbrev pub root_turn : Coord → Bool → Turn
+root_turn A false = record { from = B; negated = false }
+root_turn A true = record { from = D; negated = true }
+root_turn B false = record { from = A; negated = false }
+root_turn B true = record { from = C; negated = false }
+root_turn C false = record { from = B; negated = false }
+root_turn C true = record { from = D; negated = false }
+root_turn D false = record { from = C; negated = false }
+root_turn D true = record { from = A; negated = true }
 
 -- negated, or as it is
 abbrev pub signed : Bool → ℤ → ℤ

@@ -9,8 +9,8 @@ use gate_set::Entry;
 /// One gate on a vector: a matrix on a target, or an exchange of two variables, where controls hold.
 ///
 /// `controls` has a true bit for each controlling variable. The entry in a row and a column of the matrix
-/// is `rows[row][column]`, where 1 stands for a target that is set, and `half` is how many factors 1/√2
-/// the matrix has beside its entries.
+/// is `rows[row][column]`, where 1 stands for a target that is set, and `half`, which is 0 or 1, is how many factors
+/// 1/√2 the matrix has beside its entries: where it is 1, the entries where some control is false are multiplied by √2.
 #[derive(Clone, Copy)]
 pub enum Step {
     Mix {
@@ -39,8 +39,8 @@ impl Step {
 }
 
 /// A matrix on a target, by its rows.
-pub fn target_of(controls: Bits, target: u8, rows: [[Entry; 2]; 2]) -> Target
-    ensures { result ≡ target_with controls target rows }
+pub fn target_of(controls: Bits, target: u8, rows: [[Entry; 2]; 2], half: u8) -> Target
+    ensures { result ≡ target_with controls target rows half }
 {
     Target {
         controls,
@@ -49,5 +49,6 @@ pub fn target_of(controls: Bits, target: u8, rows: [[Entry; 2]; 2]) -> Target
         low_high: rows[0][1],
         high_low: rows[1][0],
         high_high: rows[1][1],
+        rooted: half == 1,
     }
 }

@@ -3,13 +3,14 @@ ghost use Rattle.std.specs.Prelude.{◌≡◌, ◌<◌, ◌≤◌, IfOk, IfErr, 
 ghost use Rattle.diagram_ops.specs.Diagrams.{IsConsistent};
 ghost use Rattle.diagram_ops.specs.Made.{StopIs};
 ghost use Rattle.slice_vec.specs.Growing.{Grows};
-ghost use Rattle.slice_quad.specs.Mix.{mixed, raw};
+ghost use Rattle.slice_quad.specs.Mix.{mixed, raw, old_negates};
 ghost use Rattle.slice_quad.specs.Fours.{mix_of, digits_in, AreIntegers, AreItsNodes};
 ghost use Rattle.slice_quad.specs.Raws.{AreReduced, IsReady, IsHalf, IsMix, IsRaw, AreRaw};
+ghost use Rattle.slice_quad.specs.Terms.{nodes_old};
 ghost use Rattle.slice_quad.specs.Vectors.{vector_in, AreValues};
 
 use crate::controls::gate_of;
-use crate::coord::Coord;
+use crate::coord::{Coord, root_turn_of};
 use crate::diagonal::diagonals;
 use crate::flip::flips;
 use crate::four::Four;
@@ -26,6 +27,26 @@ use steps::Steps;
 pub struct Halves {
     pub low: Four,
     pub high: Four,
+}
+
+/// The first or the second term where the controls don't hold.
+fn old_of<'a>(rooted: bool, q: &'a Four, zero: &'a Slices, z: Coord, second: bool) -> &'a Slices
+    ensures { result.now ≡ nodes_old rooted z second q.now zero.now }
+{
+    if rooted {
+        return q.get(root_turn_of(z, second).from);
+    }
+    if second {
+        return zero;
+    }
+    q.get(z)
+}
+
+/// Whether it is negated.
+fn is_old_negated(rooted: bool, z: Coord, second: bool) -> bool
+    ensures { result ≡ old_negates rooted z second }
+{
+    rooted && root_turn_of(z, second).negated
 }
 
 /// Coordinate `z` of the gate's matrix times the vector: the sum of its two terms.
@@ -48,13 +69,17 @@ fn coordinate<L: Ledger>(
     let first = Column {
         low: entries.low_low,
         high: entries.high_low,
+        out: is_old_negated(entries.rooted, z, false),
     };
     let second = Column {
         low: entries.low_high,
         high: entries.high_high,
+        out: is_old_negated(entries.rooted, z, true),
     };
-    let low = signed_term(d, gate, first, &halves.low, q.get(z), zero, z, steps)?;
-    let high = signed_term(d, gate, second, &halves.high, zero, zero, z, steps)?;
+    let old = old_of(entries.rooted, q, zero, z, false);
+    let rest = old_of(entries.rooted, q, zero, z, true);
+    let low = signed_term(d, gate, first, &halves.low, old, zero, z, steps)?;
+    let high = signed_term(d, gate, second, &halves.high, rest, zero, z, steps)?;
     let sum = add(d, &low, &high, steps)?;
     Ok(sum)
 }
@@ -105,8 +130,8 @@ fn coordinates<L: Ledger>(
 
 /// The gate's matrix times the vector.
 ///
-/// X flips the target in one walk a bit, and a diagonal matrix takes one to three connectives a bit of a
-/// coordinate. Any other matrix takes the cofactors of all bits, and up to two choices, two negations and a
+/// Without a factor 1/√2, X flips the target in one walk a bit, and a diagonal matrix takes one to three connectives a bit
+/// of a coordinate, which end at once where a control is false. Any other matrix takes the cofactors of all bits, and up to two choices, two negations and a
 /// sum a coordinate.
 fn raw_of<L: Ledger>(
     d: &mut Diagrams,

@@ -46,8 +46,8 @@ fn raw_step<L: Ledger>(
             controls,
             target,
             rows,
-            ..
-        } => mix_raw(d, target_of(*controls, *target, *rows), q, steps),
+            half,
+        } => mix_raw(d, target_of(*controls, *target, *rows, *half), q, steps),
         Step::Exchange {
             controls,
             first,

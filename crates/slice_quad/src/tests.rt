@@ -83,6 +83,22 @@ fn controlled_flip() -> Step
     }
 }
 
+/// H on the second variable where the first is set.
+fn controlled_hadamard() -> Step
+    ensures on { IsStepOn 2 result }
+    ensures half { half_of result ≤ 1 }
+{
+    Step::Mix {
+        controls: pair(true, false),
+        target: 1,
+        rows: [
+            [Entry::Omega(0), Entry::Omega(0)],
+            [Entry::Omega(0), Entry::Omega(4)],
+        ],
+        half: 1,
+    }
+}
+
 /// T on the first variable.
 fn turn_by_eighth() -> Step
     ensures on { IsStepOn 2 result }
@@ -183,6 +199,51 @@ fn steps_on_two_variables(rt: HostRuntime) {
             second: 1,
         },
     );
+}
+
+#[test]
+fn controlled_hadamards_multiply_elsewhere_by_the_root_of_two(rt: HostRuntime) {
+    let alloc = rt.alloc();
+    let Ok(mut d) = Diagrams::new(alloc, 2, 256, 16) else {
+        panic!(rt; "no memory");
+    };
+    let zeros = pair(false, false);
+    let Ok(mut q) = start(alloc, &mut d, &zeros) else {
+        panic!(rt; "no room");
+    };
+    apply(&rt, &mut d, &mut q, &controlled_hadamard());
+    let root = Quad {
+        a: -1,
+        b: 0,
+        c: 1,
+        d: 0,
+    };
+    assert_eq!(rt; entry(&d, &q, &zeros), root);
+    assert_eq!(rt; exponent(&q), 1);
+    let narrow = step(&mut d, &mut q, &controlled_hadamard(), 2);
+    assert!(rt; matches!(narrow, Err(QuadStop::Width)));
+    apply(&rt, &mut d, &mut q, &controlled_hadamard());
+    let one = Quad {
+        a: 0,
+        b: 0,
+        c: 0,
+        d: 1,
+    };
+    assert_eq!(rt; entry(&d, &q, &zeros), one);
+    assert_eq!(rt; exponent(&q), 0);
+    apply(&rt, &mut d, &mut q, &hadamard(0));
+    apply(&rt, &mut d, &mut q, &turn_by_eighth());
+    apply(&rt, &mut d, &mut q, &controlled_hadamard());
+    assert_eq!(rt; entry(&d, &q, &zeros), root);
+    let turned = Quad {
+        a: 0,
+        b: 0,
+        c: 1,
+        d: 0,
+    };
+    assert_eq!(rt; entry(&d, &q, &pair(true, false)), turned);
+    assert_eq!(rt; entry(&d, &q, &pair(true, true)), turned);
+    assert_eq!(rt; exponent(&q), 2);
 }
 
 #[test]

@@ -23,6 +23,7 @@ use Rattle.slice_gates.specs.Stepped.{step_for}
 use Rattle.slice_gates.proofs.Agreeing.{length-first_values}
 use Rattle.slice_gates.proofs.Doubles.{doubled_quad, times_power-two}
 use Rattle.step_upkeep.specs.Stored.{stored_functions}
+use Rattle.step_upkeep.proofs.StepFor.{step_is}
 use Rattle.step_upkeep.proofs.StoredAfter.{in_range, stored_wanted, either_end, halved_fits, unit_fits}
 use Rattle.step_upkeep.proofs.Values.{AreIn}
 use Rattle.state_update.specs.Kept.{never, work_of, stored_of, needed, sliced_policy}
@@ -55,7 +56,7 @@ gate_wanted : (vs : List ℕ) (n W m : ℕ) (g : Gate) (w : Scaled) → W ≡ su
 unfolding gate_work
 gate_wanted vs n W m g w wide on fits =
     let out = taken_out n g w on in
-    stored_wanted vs W m out.0 never (step_for n State g) (by_values n w.entries) (by_values n (step n w g).entries) wide (values_in n W m w.entries wide fits) out.1
+    stored_wanted vs W m out.0 never (step_for n State g) (by_values n w.entries) (by_values n (step n w g).entries) wide (values_in n W m w.entries wide fits) out.1 n (step_is n State g on.placed on.below).within
 
 -- ---- a gate has an end
 -- Where the coefficients fit the width, a gate may be accepted or refused for want of nodes.

@@ -139,8 +139,7 @@ impl Amplitudes for SlicedState {
             gates,
         ) {
             Ok(()) => {
-                self.gates
-                    .push_reserved(Gate::new(alloc, gate.kind(), gate.on()));
+                self.gates.push_reserved(gate.copied(alloc));
                 Ok(())
             }
             Err(QuadStop::Width) => Err(Stop::Width { gate: number }),

@@ -115,6 +115,27 @@ pub(crate) fn placed(alloc: Global, kind: Kind, a: u8, b: u8, c: u8) -> Gate
     }
 }
 
+/// The gate on the first of four qubits, as many as its kind asks for, and the others as further controls.
+fn guarded(alloc: Global, kind: Kind, a: u8, b: u8, c: u8, d: u8) -> Gate
+    requires a { a < 4 }
+    requires b { b < 4 }
+    requires c { c < 4 }
+    requires d { d < 4 }
+    requires ab { a ≢ b }
+    requires ac { a ≢ c }
+    requires ad { a ≢ d }
+    requires bc { b ≢ c }
+    requires bd { b ≢ d }
+    requires cd { c ≢ d }
+    ensures { IsOn 4 result }
+{
+    match kind.arity() {
+        1 => Gate::controlled(alloc, &[b, c, d], kind, &[a]),
+        2 => Gate::controlled(alloc, &[c, d], kind, &[a, b]),
+        _ => Gate::controlled(alloc, &[d], kind, &[a, b, c]),
+    }
+}
+
 /// The gate on a qubit of four or more, and on others where its kind asks for more.
 pub(crate) fn single(alloc: Global, kind: Kind, q: u8) -> Gate
     requires { q < 64 }
@@ -209,6 +230,38 @@ fn all_kinds_on_all_placements_of_four_qubits(rt: HostRuntime) {
         }
     }
     assert_eq!(rt; sliced.accepted(), 24 * 18);
+}
+
+#[test]
+fn all_kinds_under_further_controls(rt: HostRuntime) {
+    let alloc = rt.alloc();
+    let zeros = Bits::zeros(4);
+    let Ok(mut sliced) = SlicedState::start(alloc, &zeros, &Rules::usual()) else {
+        panic!(rt; "no memory");
+    };
+    let Ok(mut dense) = DenseState::start(alloc, &zeros, &Rules::usual()) else {
+        panic!(rt; "no memory");
+    };
+    for q in 0..4u8 {
+        let gate = single(alloc, Kind::H, q);
+        assert_eq!(rt; refused_at(alloc, &mut sliced, &gate), 0);
+        assert_eq!(rt; refused_at(alloc, &mut dense, &gate), 0);
+    }
+    for (a, b, c) in PLACEMENTS {
+        if a < 4 && b < 4 && c < 4 && a != b && a != c && b != c {
+            for d in 0..4u8 {
+                if d != a && d != b && d != c {
+                    for kind in KINDS {
+                        let gate = guarded(alloc, kind, a, b, c, d);
+                        assert_eq!(rt; refused_at(alloc, &mut sliced, &gate), 0);
+                        assert_eq!(rt; refused_at(alloc, &mut dense, &gate), 0);
+                        expect_same(&rt, &sliced, &dense);
+                    }
+                }
+            }
+        }
+    }
+    assert_eq!(rt; sliced.accepted(), 4 + 24 * 18);
 }
 
 /// Applies H and T in turn to the first of 4 qubits, and Cx to the second, until the width is refused. The answer

@@ -17,7 +17,9 @@ use Rattle.slice_quad.specs.declared.kind.Step.TheVariants as steps
 use Rattle.slice_quad.specs.Bits.{int_bit, bits_of}
 use Rattle.slice_quad.specs.Exchange.{Exchange, exchanged, fixed_both, by_second, by_first, exchange_digits, exchange_functions, crossing_functions, exchange_work}
 use Rattle.slice_quad.specs.Mix.{Mix, Vector, Coordinates, all_true, mixed, raw}
-use Rattle.slice_quad.specs.Stepping.{mix_with, exchange_with, stepped, step_functions, work_functions}
+use Rattle.gate_set.specs.declared.entry.Entry.{Entry}
+use Rattle.gate_set.specs.Matrix.{IsPower}
+use Rattle.slice_quad.specs.Stepping.{AreReducedRows, IsStepOn, mix_with, exchange_with, stepped, step_functions, work_functions}
 use Rattle.slice_quad.specs.Turns.{coordinate}
 use Rattle.slice_quad.proofs.BitLemmas.{digit-of_value}
 use Rattle.slice_quad.proofs.Crossed.{last_wanted}
@@ -38,7 +40,7 @@ steady_among vs w m s j steady lt =
     ]
 
 -- ---- a matrix on a target
-module _ (m : Mix) (k : ℕ) (v : Vector) (h : AreIn k v) (z : Coord) where
+module _ (m : Mix) (k : ℕ) (v : Vector) (powers : (r s : Bool) → IsPower (m.rows r s)) (h : AreIn k v) (z : Coord) where
   abbrev q : Coordinates
   q = bits_of v
 
@@ -49,7 +51,7 @@ module _ (m : Mix) (k : ℕ) (v : Vector) (h : AreIn k v) (z : Coord) where
       at : (x : Assignment) → int_bit j (coordinate z (mixed m v x)) ≡ raw m q z j x
       at x =
           ap (λ (u : Vector). int_bit j (coordinate z (mixed m u x))) (sym (vector_back k v h))
-          ∙ ap (int_bit j) (sym (raw-value m k q z x (steady_vector k v h)))
+          ∙ ap (int_bit j) (sym (raw-value m k q z x powers (steady_vector k v h)))
           ∙ digit-of_value j (suc (suc k)) (raw m q z) x (steady-raw m k q z (steady_vector k v h))
 
   mixed_among : (vs : List ℕ) (w j : ℕ) → w ≡ suc k → IsPrefixOfSome vs (first_bits (w + 2) (raw m q z)) (bits_of (mixed m v) z j)
@@ -100,18 +102,25 @@ crossed_in vs w e q z p h = some_right vs (crossing_functions e) (flat_map (λ y
     at D k = some_right vs (f A) (f B ++ (f C ++ (f D ++ []))) p (some_right vs (f B) (f C ++ (f D ++ [])) p (some_right vs (f C) (f D ++ []) p (some_left vs (f D) [] p k)))
 
 -- ---- any step
-step_among : (vs : List ℕ) (w k : ℕ) (s : Step) (v : Vector) (z : Coord) (j : ℕ) → w ≡ suc k → AreIn k v → IsPrefixOfSome vs (step_functions w s (bits_of v)) (bits_of (stepped s v) z j)
+-- the entries of a step's rows
+row_powers : (controls : List Bool) (target : ℕ) (rows : List (List Entry)) (half : ℕ) → AreReducedRows rows → (r s : Bool) → IsPower ((mix_with controls target rows half).rows r s)
+row_powers controls target rows half h true true = h.high_high
+row_powers controls target rows half h true false = h.high_low
+row_powers controls target rows half h false true = h.low_high
+row_powers controls target rows half h false false = h.low_low
+
+step_among : (n : ℕ) (vs : List ℕ) (w k : ℕ) (s : Step) (v : Vector) (z : Coord) (j : ℕ) → IsStepOn n s → w ≡ suc k → AreIn k v → IsPrefixOfSome vs (step_functions w s (bits_of v)) (bits_of (stepped s v) z j)
 unfolding step_functions
-step_among vs w k (steps.Mix controls target rows half) v z j e h =
-    let m = mix_with controls target rows in
+step_among n vs w k (steps.Mix controls target rows half) v z j on e h =
+    let m = mix_with controls target rows half in
     let p = bits_of (mixed m v) z j in
-    wanted_in vs w m (bits_of v) z p (wanted_raw vs w m (bits_of v) z p (mixed_among m k v h z vs w j e))
-step_among vs w k (steps.Exchange controls first second) v z j e h =
+    wanted_in vs w m (bits_of v) z p (wanted_raw vs w m (bits_of v) z p (mixed_among m k v (row_powers controls target rows half on.0) h z vs w j e))
+step_among n vs w k (steps.Exchange controls first second) v z j on e h =
     let x = exchange_with controls first second in
     let p = bits_of (exchanged x v) z j in
     crossed_in vs w x (bits_of v) z p (last_wanted vs w x (bits_of v z) p (exchanged_among x k v h z vs w j e))
 
 -- Each bit of the step's vector is among the step's work functions, where the coefficients before are signed numbers of the width.
-pub bit_wanted : (vs : List ℕ) (w k : ℕ) (kept : Function) (s : Step) (v : Vector) (z : Coord) (j : ℕ) → w ≡ suc k → AreIn k v → IsPrefixOfSome vs (work_functions w kept s v) (bits_of (stepped s v) z j)
+pub bit_wanted : (n : ℕ) (vs : List ℕ) (w k : ℕ) (kept : Function) (s : Step) (v : Vector) (z : Coord) (j : ℕ) → IsStepOn n s → w ≡ suc k → AreIn k v → IsPrefixOfSome vs (work_functions w kept s v) (bits_of (stepped s v) z j)
 unfolding work_functions
-bit_wanted vs w k kept s v z j e h = some_later vs kept (step_functions w s (bits_of v)) (bits_of (stepped s v) z j) (step_among vs w k s v z j e h)
+bit_wanted n vs w k kept s v z j on e h = some_later vs kept (step_functions w s (bits_of v)) (bits_of (stepped s v) z j) (step_among n vs w k s v z j on e h)

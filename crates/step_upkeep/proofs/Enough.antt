@@ -5,8 +5,8 @@ use Rattle.std.proofs.Math.Nat.{mul-le-mul_right, mul-suc, suc-mul}
 use Rattle.std.proofs.lemmas.List.{length-map, length-take-le}
 use Rattle.std.proofs.lemmas.Nat.{pow_pos}
 use Rattle.gate_set.specs.declared.gate.Gate.{Gate}
-use Rattle.gate_set.specs.Matrix.{arity_of}
-use Rattle.gate_set.specs.Shape.{IsPlaced}
+use Rattle.gate_set.specs.Matrix.{arity_of, half_power_of}
+use Rattle.gate_set.specs.Shape.{IsPlaced, qubits_of, arity_with}
 use Rattle.gate_set.proofs.MatrixLemmas.{arity_of-few}
 use Rattle.diagram_model.specs.Functions.{Function}
 use Rattle.diagram_model.specs.Size.{size}
@@ -161,41 +161,42 @@ places_for n on =
     let none = places_none n 0 in
     omega (arith, all, none)
 
--- at most three, whatever the kind and the side
-controls_few : (n i : ℕ) (side : Side) (g : Gate) → IsPlaced g.kind g.on → i ≤ arity_of g.kind → length (true_places 0 (controls_for n (take i (map (place_on side) g.on)))) ≤ 3
+-- at most eleven, whatever the kind and the side
+controls_few : (n i : ℕ) (side : Side) (g : Gate) → IsPlaced g.kind g.extra g.on → i ≤ arity_with g → length (true_places 0 (controls_for n (take i (map (place_on side) (qubits_of g))))) ≤ 11
 controls_few n i side g placed within =
-    let mapped : length (map (place_on side) g.on) ≡ arity_of g.kind = length-map g.on (place_on side) ∙ placed.count in
-    let taken : length (take i (map (place_on side) g.on)) ≡ i = length-take-le i (map (place_on side) g.on) (omega (arith, within, mapped)) in
-    let places = places_for n (take i (map (place_on side) g.on)) in
+    let all : length (qubits_of g) ≡ length g.extra + arity_of g.kind = length-append g.extra g.on ∙ ap (λ k. length g.extra + k) placed.count in
+    let mapped : length (map (place_on side) (qubits_of g)) ≡ length (qubits_of g) = length-map (qubits_of g) (place_on side) in
+    let taken : length (take i (map (place_on side) (qubits_of g))) ≡ i = length-take-le i (map (place_on side) (qubits_of g)) (omega (arith, within, mapped, all)) in
+    let places = places_for n (take i (map (place_on side) (qubits_of g))) in
     let few = arity_of-few g.kind in
-    omega (arith, taken, places, few, within)
+    omega (arith, taken, places, few, within, placed.few)
 
 -- ---- the work functions of a gate, on the variables of a side
-module _ (n w : ℕ) (side : Side) (g : Gate) (q : Coordinates) (placed : IsPlaced g.kind g.on) where
-  mix_few : length (step_functions w (mix_for n side g) q) ≤ 60 * w + 68
+module _ (n w : ℕ) (side : Side) (g : Gate) (q : Coordinates) (placed : IsPlaced g.kind g.extra g.on) where
+  mix_few : length (step_functions w (mix_for n side g) q) ≤ 60 * w + 84
   unfolding step_functions
   mix_few =
-      let all = mix_count w (mix_with (target_for n side g).controls (target_for n side g).target (rows_of (target_for n side g))) q in
-      let few = controls_few n (arity_of g.kind - 1) side g placed (omega arith) in
+      let all = mix_count w (mix_with (target_for n side g).controls (target_for n side g).target (rows_of (target_for n side g)) (half_power_of g.kind)) q in
+      let few = controls_few n (arity_with g - 1) side g placed (omega arith) in
       omega (arith, all, few)
 
-  pair_few : length (step_functions w (pair_for n side g) q) ≤ 60 * w + 68
+  pair_few : length (step_functions w (pair_for n side g) q) ≤ 60 * w + 84
   unfolding step_functions
   pair_few =
-      let all = crossed_count w (exchange_with (controls_for n (take (arity_of g.kind - 2) (map (place_on side) g.on)))
-      (get_or (map (place_on side) g.on) (arity_of g.kind - 2) 0) (get_or (map (place_on side) g.on) (arity_of g.kind - 1) 0)) q in
-      let few = controls_few n (arity_of g.kind - 2) side g placed (omega arith) in
+      let all = crossed_count w (exchange_with (controls_for n (take (arity_with g - 2) (map (place_on side) (qubits_of g))))
+      (get_or (map (place_on side) (qubits_of g)) (arity_with g - 2) 0) (get_or (map (place_on side) (qubits_of g)) (arity_with g - 1) 0)) q in
+      let few = controls_few n (arity_with g - 2) side g placed (omega arith) in
       omega (arith, all, few)
 
-  step_few : length (step_functions w (step_for n side g) q) ≤ 60 * w + 68
+  step_few : length (step_functions w (step_for n side g) q) ≤ 60 * w + 84
   step_few = by (exchanges g.kind)
     where
-      by : (b : Bool) → length (step_functions w (cond b (pair_for n side g) (mix_for n side g)) q) ≤ 60 * w + 68
+      by : (b : Bool) → length (step_functions w (cond b (pair_for n side g) (mix_for n side g)) q) ≤ 60 * w + 84
       by true = pair_few
       by false = mix_few
 
 -- they are few, beside any kept function
-pub work_few : (n w : ℕ) (side : Side) (kept : Function) (g : Gate) (v : Vector) → IsPlaced g.kind g.on → length (work_functions w kept (step_for n side g) v) ≤ 64 * (w + 2) + 130
+pub work_few : (n w : ℕ) (side : Side) (kept : Function) (g : Gate) (v : Vector) → IsPlaced g.kind g.extra g.on → length (work_functions w kept (step_for n side g) v) ≤ 64 * (w + 2) + 130
 unfolding work_functions
 work_few n w side kept g v placed = let few = step_few n w side g (bits_of v) placed in omega (arith, few)
 

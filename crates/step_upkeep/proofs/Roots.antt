@@ -155,7 +155,7 @@ old_mixed vs w m q z p h = some_left vs (first_bits w (q z)) _ p h
 -- those of any step
 pub old_stepped : (vs : List ℕ) (w : ℕ) (s : Step) (q : Coordinates) (z : Coord) (p : Function) → IsPrefixOfSome vs (first_bits w (q z)) p → IsPrefixOfSome vs (step_functions w s q) p
 unfolding step_functions
-old_stepped vs w (steps.Mix controls target rows half) q z p h = let m = mix_with controls target rows in wanted_in vs w m q z p (old_mixed vs w m q z p h)
+old_stepped vs w (steps.Mix controls target rows half) q z p h = let m = mix_with controls target rows half in wanted_in vs w m q z p (old_mixed vs w m q z p h)
 old_stepped vs w (steps.Exchange controls first second) q z p h = old_exchanged vs w (exchange_with controls first second) q z p h
 
 -- the function of a bit is one of the bits

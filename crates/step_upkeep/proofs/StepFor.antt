@@ -1,15 +1,15 @@
 -- The step that a gate is, whatever the side and the vector.
-use Rattle.std.proofs.Common.{◌≡◌, ℕ, zero, suc, ◌+◌, ◌-◌, ◌^◌, ◌<◌, ◌≤◌, Bool, true, false, List, [], ◌∷◌, All, length, get_or, map, replicate, set, inl, inr, refl, ◌∙◌, ap, subst, arith}
+use Rattle.std.proofs.Common.{◌≡◌, ℕ, zero, suc, ◌+◌, ◌-◌, ◌^◌, ◌<◌, ◌≤◌, Bool, true, false, List, [], ◌∷◌, ◌++◌, length-append, All, length, get_or, map, replicate, set, inl, inr, refl, ◌∙◌, ap, subst, arith}
 use Rattle.std.proofs.lemmas.Bool.{cases_Bool}
 use Rattle.std.proofs.lemmas.List.{length-map}
 use Rattle.std.proofs.lemmas.List.Elements.{All-map}
 use Rattle.gate_set.specs.declared.entry.Entry.{Entry}
 use Rattle.gate_set.specs.declared.gate.Gate.{Gate}
 use Rattle.gate_set.specs.declared.kind.Kind.{Kind}
-use Rattle.gate_set.specs.declared.kind.Kind.TheVariants.{Id, X, Y, Z, H, S, Sdg, T, Tdg, RxP, RxM, RyP, RyM, Cx, Cz, Swap, Ccx, Cswap}
-use Rattle.gate_set.specs.Matrix.{arity_of, half_power_of, IsReduced}
-use Rattle.gate_set.specs.Shape.{IsPlaced}
-use Rattle.gate_set.proofs.MatrixLemmas.{IsReduced-entry_of}
+use Rattle.gate_set.specs.declared.kind.Kind.TheVariants.{Id, X, Y, Z, H, S, Sdg, T, Tdg, RxP, RxM, RyP, RyM, Cx, Cz, Swap, Ccx, Cswap, Phase}
+use Rattle.gate_set.specs.Matrix.{arity_of, half_power_of, IsPower, IsKind}
+use Rattle.gate_set.specs.Shape.{IsPlaced, qubits_of}
+use Rattle.gate_set.proofs.MatrixLemmas.{IsPower-entry_of}
 use Rattle.diagram_model.specs.Functions.{Assignment}
 use Rattle.slice_quad.specs.declared.kind.Step.{Step}
 use Rattle.slice_gates.specs.declared.side.Side.{Side}
@@ -45,12 +45,13 @@ rows_of_kind Cz = record { some = omega arith; last = refl }
 rows_of_kind Swap = record { some = omega arith; last = refl }
 rows_of_kind Ccx = record { some = omega arith; last = refl }
 rows_of_kind Cswap = record { some = omega arith; last = refl }
+rows_of_kind (Phase j) = record { some = omega arith; last = refl }
 
 -- each entry is one of the kind's, on columns that of the transposed matrix
-entry_reduced : (side : Side) (k : Kind) (row col : ℕ) → IsReduced (entry_on side k row col)
-entry_reduced State k row col = IsReduced-entry_of k row col
-entry_reduced Rows k row col = IsReduced-entry_of k row col
-entry_reduced Columns k row col = IsReduced-entry_of k col row
+entry_power : (side : Side) (k : Kind) (row col : ℕ) → IsKind k → IsPower (entry_on side k row col)
+entry_power State k row col h = IsPower-entry_of k row col h
+entry_power Rows k row col h = IsPower-entry_of k row col h
+entry_power Columns k row col h = IsPower-entry_of k col row h
 
 -- the controls up to a number of qubits
 abbrev Controls : ℕ → List ℕ → ℕ → Type 0
@@ -62,9 +63,9 @@ controls_to n l below (suc i) le =
     let before = controls_to n l below i (omega (arith, le)) in
     (set before.0 (get_or l i 0) true, subst (λ j. HaveControls n l j (set before.0 (get_or l i 0) true)) (let e : i + 1 ≡ suc i = omega arith in e) (controls_more n l i before.0 below (omega (arith, le)) before.1))
 
-module _ (n : ℕ) (side : Side) (g : Gate) (placed : IsPlaced g.kind g.on) (within : All (λ q. place_on side q < n) g.on) where
+module _ (n : ℕ) (side : Side) (g : Gate) (placed : IsPlaced g.kind g.extra g.on) (within : All (λ q. place_on side q < n) (qubits_of g)) where
   abbrev l : List ℕ
-  l = map (place_on side) g.on
+  l = map (place_on side) (qubits_of g)
 
   abbrev a : ℕ
   a = arity_of g.kind
@@ -73,16 +74,16 @@ module _ (n : ℕ) (side : Side) (g : Gate) (placed : IsPlaced g.kind g.on) (wit
   e row col = entry_on side g.kind row col
 
   below : All (λ q. q < n) l
-  below = All-map (λ q. q < n) (place_on side) g.on within
+  below = All-map (λ q. q < n) (place_on side) (qubits_of g) within
 
-  count : length l ≡ a
-  count = length-map g.on (place_on side) ∙ placed.count
+  count : length l ≡ length g.extra + a
+  count = length-map (qubits_of g) (place_on side) ∙ length-append g.extra g.on ∙ ap (λ k. length g.extra + k) placed.count
 
-  controls : (i : ℕ) → i ≤ a → Controls n l i
-  controls i le = controls_to n l below i (omega (arith, le, count))
+  controls : (i : ℕ) → i ≤ a → Controls n l (length g.extra + i)
+  controls i le = controls_to n l below (length g.extra + i) (omega (arith, le, count))
 
   entry_at : (row col : ℕ) → IsEntryAt side g.kind row col (e row col)
-  entry_at row col = record { value = refl; reduced = entry_reduced side g.kind row col }
+  entry_at row col = record { value = refl; power = entry_power side g.kind row col placed.power }
 
   mixed_is : exchanges g.kind ≡ false → IsStepOf n side g (step_for n side g)
   mixed_is one =
@@ -91,7 +92,7 @@ module _ (n : ℕ) (side : Side) (g : Gate) (placed : IsPlaced g.kind g.on) (wit
       let c = controls (a - 1) (omega arith) in
       let entries : HasEntries side g.kind r (e r r) (e r (r + 1)) (e (r + 1) r) (e (r + 1) (r + 1)) =
       record { low_low = entry_at r r; low_high = entry_at r (r + 1); high_low = entry_at (r + 1) r; high_high = entry_at (r + 1) (r + 1) } in
-      let is = target_made n side g g.on a r c.0 (e r r) (e r (r + 1)) (e (r + 1) r) (e (r + 1) (r + 1)) placed within one refl refl rows.some rows.last c.1 entries in
+      let is = target_made n side g g.extra g.on a r (half_power_of g.kind) c.0 (e r r) (e r (r + 1)) (e (r + 1) r) (e (r + 1) (r + 1)) placed within one refl refl refl rows.some rows.last refl c.1 entries in
       let matrix : List (List Entry) = (e r r ∷ e r (r + 1) ∷ []) ∷ (e (r + 1) r ∷ e (r + 1) (r + 1) ∷ []) ∷ [] in
       let made = step_made n side g c.0 (place_on side (get_or g.on (a - 1) 0)) matrix (half_power_of g.kind) one refl is refl in
       subst (λ (s : Step). IsStepOf n side g s) made.value made
@@ -99,7 +100,7 @@ module _ (n : ℕ) (side : Side) (g : Gate) (placed : IsPlaced g.kind g.on) (wit
   crossed_is : exchanges g.kind ≡ true → IsStepOf n side g (step_for n side g)
   crossed_is two =
       let c = controls (a - 2) (omega arith) in
-      let made = exchange_made n side g g.on a c.0 placed within two refl refl c.1 in
+      let made = exchange_made n side g g.extra g.on a c.0 placed within two refl refl refl c.1 in
       subst (λ (s : Step). IsStepOf n side g s) made.value made
 
   pub step_is : IsStepOf n side g (step_for n side g)

@@ -20,7 +20,7 @@ use Rattle.slice_quad.specs.declared.kind.Step.{Step}
 use Rattle.slice_quad.specs.Bits.{int_bit, bits_of}
 use Rattle.slice_quad.specs.Mix.{Vector}
 use Rattle.slice_quad.specs.Settled.{doubled}
-use Rattle.slice_quad.specs.Stepping.{stepped, step_functions, work_functions}
+use Rattle.slice_quad.specs.Stepping.{IsStepOn, stepped, step_functions, work_functions}
 use Rattle.slice_quad.specs.Turns.{coordinate}
 use Rattle.slice_gates.proofs.Doubles.{doubled_quad}
 use Rattle.step_upkeep.specs.Stored.{stored_functions}
@@ -49,7 +49,7 @@ twice_times C t q = refl
 twice_times D t q = refl
 
 -- t times twice the new vector is the step's matrix times the old one, whose coefficients are signed numbers of m + 1 bits
-module _ (vs : List ℕ) (W m t : ℕ) (kept : Function) (s : Step) (old new : Vector) (wide : W ≡ suc m) (narrow : AreIn m old) (halved : (x : Assignment) → doubled_quad t (new x) ≡ stepped s old x) where
+module _ (vs : List ℕ) (W m t : ℕ) (kept : Function) (s : Step) (old new : Vector) (wide : W ≡ suc m) (narrow : AreIn m old) (halved : (x : Assignment) → doubled_quad t (new x) ≡ stepped s old x) (n : ℕ) (on : IsStepOn n s) where
   -- each bit of the new vector is a bit of the step's
   new_bit : (z : Coord) (i : ℕ) → bits_of new z i ≡ bits_of (stepped s old) z (i + t)
   unfolding bits_of
@@ -64,7 +64,7 @@ module _ (vs : List ℕ) (W m t : ℕ) (kept : Function) (s : Step) (old new : V
   IsWanted f = IsPrefixOfSome vs (work_functions W kept s old) f
 
   bit_is : (z : Coord) (i : ℕ) → IsWanted (bits_of new z i)
-  bit_is z i = subst IsWanted (sym (new_bit z i)) (bit_wanted vs W m kept s old z (i + t) wide narrow)
+  bit_is z i = subst IsWanted (sym (new_bit z i)) (bit_wanted n vs W m kept s old z (i + t) on wide narrow)
 
   first_is : IsWanted kept
   unfolding work_functions

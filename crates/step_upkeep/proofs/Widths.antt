@@ -125,7 +125,7 @@ module _ (vs : List ℕ) (p : Function) where
 
     step_within : (s : Step) (q : Coordinates) → IsWithin vs p (step_functions w s q) (step_functions W s q)
     unfolding step_functions
-    step_within (steps.Mix controls target rows half) q = mix_within (mix_with controls target rows) q
+    step_within (steps.Mix controls target rows half) q = mix_within (mix_with controls target rows half) q
     step_within (steps.Exchange controls first second) q = exchange_within (exchange_with controls first second) q
 
     -- the work functions for a wider width

@@ -1,4 +1,5 @@
 //! One gate on a state, with upkeep.
+ghost use Rattle.gate_set.specs.Shape.{qubits_of};
 ghost use Rattle.std.specs.Prelude.{◌≡◌, ◌-◌, ◌<◌, ◌≤◌, ◌^◌, IfErr, OnOk, OnErr, All, true, false, length};
 ghost use Rattle.circuit_model.specs.Working.{Scaled, FitsWidth, raw, step as next};
 ghost use Rattle.diagram_model.specs.Stores.{function_of};
@@ -32,7 +33,7 @@ pub fn upkept_gate(
     gates: u32,
 ) -> Result<(), QuadStop>
     requires stands { Stands d.old.store q.old }
-    requires below { All (λ q. q < length d.old.store.order) gate.now.on }
+    requires below { All (λ q. q < length d.old.store.order) (qubits_of gate.now) }
     requires least { 2 ≤ width }
     requires greatest { width ≤ 128 }
     requires exponent { q.old.exponent < 2 ^ 32 - 1 }

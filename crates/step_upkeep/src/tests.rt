@@ -1,4 +1,5 @@
 //! When upkeep is due, and some gates on a state with reclaims.
+ghost use Rattle.gate_set.specs.Shape.{qubits_of};
 ghost use Rattle.std.specs.Prelude.{All, ◌≡◌, ◌<◌, ◌-◌, ◌^◌, length};
 ghost use Rattle.slice_quad.specs.Vectors.{Stands};
 
@@ -33,7 +34,7 @@ fn apply(
     schedule: Schedule,
 )
     requires stands { Stands d.old.store q.old }
-    requires below { All (λ q. q < length d.old.store.order) gate.now.on }
+    requires below { All (λ q. q < length d.old.store.order) (qubits_of gate.now) }
     ensures stands { Stands d.new.store q.new }
     ensures order { length d.new.store.order ≡ length d.old.store.order }
 {

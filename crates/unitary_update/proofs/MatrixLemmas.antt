@@ -7,7 +7,7 @@ use Rattle.std.proofs.lemmas.List.{length-append}
 use Rattle.ring_omega.specs.Ring.{zero_quad, one_quad}
 use Rattle.gate_set.specs.Matrix.{half_power_of}
 use Rattle.gate_set.specs.declared.gate.Gate.{Gate}
-use Rattle.gate_set.specs.Shape.{IsOn}
+use Rattle.gate_set.specs.Shape.{qubits_of, IsOn}
 use Rattle.circuit_model.specs.Working.{Scaled}
 use Rattle.circuit_model.specs.Working as circuits
 use Rattle.comparison.specs.Scalars.{scalar_entry}
@@ -202,12 +202,12 @@ pub state_fits : (s : State) (t : Step) (width : ℕ) → width ≡ s.rules.widt
 state_fits s t width e fits = subst (λ i. circuits.FitsWidth (s.qubits + s.qubits) i (raw_matrix s.qubits (work_matrix s.qubits s.steps) t).entries) (sym e) fits
 
 -- ---- on which variables a step acts
-pub rows_below : (n : ℕ) (m : MatrixStep) (g : Gate) → m ≡ Left g → IsOn n (gate_of (step_in m)) → All (λ q. place_on Rows q < 2 * n) g.on
+pub rows_below : (n : ℕ) (m : MatrixStep) (g : Gate) → m ≡ Left g → IsOn n (gate_of (step_in m)) → All (λ q. place_on Rows q < 2 * n) (qubits_of g)
 rows_below n m g e on =
     let here : IsOn n g = subst (λ (k : MatrixStep). IsOn n (gate_of (step_in k))) e on in
     λ i d lt. let less = here.below i d lt in omega (arith, less)
 
-pub columns_below : (n : ℕ) (m : MatrixStep) (g : Gate) → m ≡ Right g → IsOn n (gate_of (step_in m)) → All (λ q. place_on Columns q < 2 * n) g.on
+pub columns_below : (n : ℕ) (m : MatrixStep) (g : Gate) → m ≡ Right g → IsOn n (gate_of (step_in m)) → All (λ q. place_on Columns q < 2 * n) (qubits_of g)
 columns_below n m g e on =
     let here : IsOn n g = subst (λ (k : MatrixStep). IsOn n (gate_of (step_in k))) e on in
     λ i d lt. let less = here.below i d lt in omega (arith, less)

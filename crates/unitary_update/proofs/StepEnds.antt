@@ -3,7 +3,8 @@ use Rattle.std.proofs.Common.{◌≡◌, ◌⊎◌, ℕ, zero, suc, ◌+◌, ◌
 use Rattle.std.proofs.Math.Path.{ap₂}
 use Rattle.bit_lists.specs.Lists.{all_lists, place_of, bits_at, with_bits}
 use Rattle.bit_lists.specs.Orders.{AreVars}
-use Rattle.gate_set.specs.Matrix.{entry_of, times_entry}
+use Rattle.gate_set.specs.Matrix.{times_entry}
+use Rattle.gate_set.specs.Shape.{qubits_of, gate_entry}
 use Rattle.gate_set.specs.Shape.{IsOn}
 use Rattle.circuit_model.specs.Product.{same_bits}
 use Rattle.circuit_model.specs.Working.{Scaled, IsHalved, QuadFits, FitsWidth}
@@ -87,8 +88,8 @@ product_is n (left g) m r c on er ec =
     applied-same g (λ s. m s c) (λ s. at_lists (by_variables n m) (woven s c)) r (λ y len. entry_in n m y c (len ∙ er) ec)
     ∙ left_stepped n g (sliced_step n (left g)) (by_variables n m) r c (sided_is n (left g) on) er ec
 product_is n (right g) m r c on er ec =
-    sum_over-same (all_lists (length g.on)) _ _
-    (λ y. ap (times_entry (entry_of g.kind (place_of y) (place_of (bits_at c g.on)))) (entry_in n m r (with_bits c g.on y) er (length-with_bits c g.on y ∙ ec)))
+    sum_over-same (all_lists (length (qubits_of g))) _ _
+    (λ y. ap (times_entry (gate_entry g (place_of y) (place_of (bits_at c (qubits_of g))))) (entry_in n m r (with_bits c (qubits_of g) y) er (length-with_bits c (qubits_of g) y ∙ ec)))
     ∙ right_stepped n g (sliced_step n (right g)) (by_variables n m) r c (sided_is n (right g) on) er ec
 
 stepped_is : (n : ℕ) (t : Step) (m : Matrix) (x : Assignment) → IsOn n (gate_of t) → times_step t m (row n x) (column n x) ≡ stepped (sliced_step n t) (by_variables n m) x
@@ -132,7 +133,7 @@ step_wanted : (vs : List ℕ) (n W m : ℕ) (t : Step) (w : Scaled) → W ≡ su
     → IsPrefixOfSome vs (work_functions W (row_equals_column n) (sliced_step n t) (by_variables n (by_position w.entries))) f
 step_wanted vs n W m t w wide on fits =
     let out = taken_out n t w on in
-    stored_wanted vs W m out.0 (row_equals_column n) (sliced_step n t) (by_variables n (by_position w.entries)) (by_variables n (by_position (step_matrix n w t).entries)) wide (values_in n W m w wide fits) out.1
+    stored_wanted vs W m out.0 (row_equals_column n) (sliced_step n t) (by_variables n (by_position w.entries)) (by_variables n (by_position (step_matrix n w t).entries)) wide (values_in n W m w wide fits) out.1 (2 * n) (sided_within n t (sliced_step n t) (sided_is n t on))
 
 -- ---- a step has an end
 -- where the coefficients fit the width, a step may be accepted, or be refused for want of nodes

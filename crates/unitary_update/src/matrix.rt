@@ -107,7 +107,7 @@ impl SlicedMatrix {
         ensures order { Reorders (standing_of self.old) result (standing_of self.new).order }
         ensures after_reclaim { is_due (standing_of self.old).rules.reclaim (length (standing_of self.old).steps) ≡ true → is_due (standing_of self.old).rules.sift (length (standing_of self.old).steps) ≡ false → OnOk result (HoldsOnly self.new.diagrams.store (InWork (standing_of self.old) (left gate.now))) }
     {
-        let factor = Gate::new(alloc, gate.kind(), gate.on());
+        let factor = gate.copied(alloc);
         self.accept(alloc, MatrixStep::Left(factor))
     }
 
@@ -122,7 +122,7 @@ impl SlicedMatrix {
         ensures order { Reorders (standing_of self.old) result (standing_of self.new).order }
         ensures after_reclaim { is_due (standing_of self.old).rules.reclaim (length (standing_of self.old).steps) ≡ true → is_due (standing_of self.old).rules.sift (length (standing_of self.old).steps) ≡ false → OnOk result (HoldsOnly self.new.diagrams.store (InWork (standing_of self.old) (right gate.now))) }
     {
-        let factor = Gate::new(alloc, gate.kind(), gate.on());
+        let factor = gate.copied(alloc);
         self.accept(alloc, MatrixStep::Right(factor))
     }
 

@@ -46,7 +46,7 @@ both_found (Err Unknown) t = Err Unknown
 both_found (Err Beyond) (Ok t) = Err Beyond
 both_found (Err Beyond) (Err m) = Err m
 
--- what is known of the arguments so far: the first three, how many there are, counted up to 4, and whether some miss
+-- what is known of the arguments so far: the first eleven, how many there are, counted up to 12, and whether some miss
 pub record Found : Type 0 where
   pub targets : List Target
   pub count : ℕ
@@ -57,10 +57,10 @@ abbrev pub seen_found : CodeFound → Found
 seen_found f = record { targets = seen_targets f.targets.items; count = f.count; unknown = f.unknown; beyond = f.beyond }
 
 abbrev pub next_count : ℕ → ℕ
-next_count n = cond (nat_lt n 4) (n + 1) n
+next_count n = cond (nat_lt n 12) (n + 1) n
 
 abbrev pub noted : Found → Result Target Miss → Found
-noted f (Ok t) = record f { targets = cond (nat_lt (length f.targets) 3) (f.targets ++ t ∷ []) f.targets; count = next_count f.count }
+noted f (Ok t) = record f { targets = cond (nat_lt (length f.targets) 11) (f.targets ++ t ∷ []) f.targets; count = next_count f.count }
 noted f (Err Unknown) = record f { count = next_count f.count; unknown = true }
 noted f (Err Beyond) = record f { count = next_count f.count; beyond = true }
 
@@ -91,12 +91,12 @@ touches flags ts = list_any (λ place. list_any (flagged flags) (qubits_at ts pl
 abbrev pub other_count : Target → Target → Bool
 other_count f t = not (nat_eq (place_count (f ∷ [])) (place_count (t ∷ [])))
 
--- so many gates of a kind
-abbrev pub items_of : Kind × ℕ → List Item
-items_of p = replicate p.1 (one p.0)
+-- so many gates of a kind, with n further controls
+abbrev pub items_of : ℕ → Kind × ℕ → List Item
+items_of n p = replicate p.1 (one n p.0)
 
-abbrev pub bodies : Result (Kind × ℕ) Why → Result (List Item) Why
-bodies body = result_map_both items_of (λ why. why) body
+abbrev pub bodies : ℕ → Result (Kind × ℕ) Why → Result (List Item) Why
+bodies n body = result_map_both (items_of n) (λ why. why) body
 
 abbrev pub counted : List Bool → List Target → ℕ → Result (Kind × ℕ) Why → Result (Kind × ℕ) Why
 counted flags ts gates (Err why) = Err why

@@ -25,8 +25,8 @@ returns-then-is_left_next-clause-step c =
     let j = c.args.j in
     let turn = c.is_left_next.ensures.0 c.if-is_left_next.true in
     let d : Gate = c.index-us-i.result in
-    let same : get_or us i d ≡ c.new.result =
-    sym c.index-us-i.is ∙ ap₂ (λ k o. let h : Gate = record { kind = k; on = o } in h) (sym c.kind.ensures.kind) (sym c.on.ensures.on) ∙ sym c.new.ensures.value in
+    let same : get_or us i d ≡ c.copied.result =
+    sym c.index-us-i.is ∙ sym c.copied.ensures.value in
     left_turn (length us) (length vs) i j us vs d turn.0 (ends (length us) (length vs) i j turn)
     ∙ ap₂ (λ g k. left g ∷ mixed (length us) (length vs) (i + 1) k (drop (i + 1) us) (drop k vs)) same (none_more j)
 
@@ -41,7 +41,7 @@ returns-else-is_left_next-clause-step c =
     let j = c.args.j in
     let turn = right_left (length us) (length vs) i j (λ h. not_left c.is_left_next.result c.if-is_left_next.false (c.is_left_next.ensures.1 h)) c.requires.i c.requires.j c.requires.some in
     let d : Gate = c.index-vs-j.result in
-    let same : get_or vs j d ≡ c.new-else-is_left_next.result =
-    sym c.index-vs-j.is ∙ ap₂ (λ k o. let h : Gate = record { kind = k; on = o } in h) (sym c.kind-else-is_left_next.ensures.kind) (sym c.on-else-is_left_next.ensures.on) ∙ sym c.new-else-is_left_next.ensures.value in
+    let same : get_or vs j d ≡ c.copied-else-is_left_next.result =
+    sym c.index-vs-j.is ∙ sym c.copied-else-is_left_next.ensures.value in
     right_turn (length us) (length vs) i j us vs d turn.0 turn.1
     ∙ ap₂ (λ g k. right g ∷ mixed (length us) (length vs) k (j + 1) (drop k us) (drop (j + 1) vs)) (ap inverse_gate same ∙ sym c.inverse.ensures.value) (none_more i)

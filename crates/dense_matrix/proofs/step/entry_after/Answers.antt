@@ -1,131 +1,37 @@
-use Rattle.std.proofs.Common.{rules, ◌≡◌, ◌<◌, ◌≤◌, ◌^◌, ◌*◌, ◌+◌, ℕ, List, Bool, [], length, take, get_or, ap, sym, refl, ◌∙◌, arith}
+use Rattle.std.proofs.Common.{◌≡◌, List, Bool, true, false, cond, ◌++◌, length, get_or, sym, ◌∙◌, ap}
 use Rattle.std.proofs.Math.Path.{ap₂}
-use Rattle.std.proofs.Math.Pow.{pow_mono}
-use Rattle.std.proofs.Math.Seq.{take-length}
-use Rattle.ring_omega.specs.declared.quad.Quad.{Quad}
-use Rattle.ring_omega.specs.Ring.{sum_of, zero_quad}
-use Rattle.ring_omega.proofs.RingLaws.{sum_of-zero}
-use Rattle.ring_omega.proofs.BoundLemmas.{IsWithin-more}
-use Rattle.bit_lists.specs.Lists.{place_of, bits_at, with_bits, all_lists}
-use Rattle.bit_lists.proofs.Places.{listed, length-all_lists}
-use Rattle.gate_set.specs.declared.gate.Gate.{Gate}
-use Rattle.gate_set.specs.declared.entry.Entry.{Entry}
-use Rattle.gate_set.specs.declared.entry.Entry.TheVariants.{Zero, Omega}
-use Rattle.gate_set.specs.Matrix.{arity_of, times_entry}
-use Rattle.gate_set.specs.Shape.{IsPlaced}
+use Rattle.ring_omega.specs.Ring.{zero_quad}
+use Rattle.bit_lists.specs.Lists.{all_lists}
+use Rattle.gate_set.specs.Matrix.{beside, times_entry}
 use Rattle.circuit_model.specs.Product.{sum_over}
-use Rattle.circuit_model.specs.Vector.{at}
-use Rattle.circuit_model.proofs.SumLemmas.{sum_over_more, length-with_bits}
-use Rattle.quad_lists.specs.Sums.{quad_value}
-use Rattle.comparison.specs.declared.turns.Side.{Side}
-use Rattle.comparison.specs.declared.turns.Side.TheVariants.{Left, Right}
-use Rattle.dense_matrix.specs.Sides.{own, put, entry_on}
-use Rattle.dense_matrix.proofs.Terms.{part, step-parts}
+use Rattle.circuit_model.specs.Vector.{at, all_set}
+use Rattle.dense_matrix.specs.Sides.{own, part}
+use Rattle.dense_matrix.proofs.Terms.{own_at, step-parts}
 use Rattle.dense_matrix.proofs.step.entry_after.Goals as goal
 
--- a matrix has as many rows as there are lists of the gate's bits
-sized : (g : Gate) (side : ℕ) → IsPlaced g.kind g.on → side ≡ 2 ^ arity_of g.kind → side ≡ 2 ^ length g.on
-sized g side placed e = e ∙ ap (λ k. 2 ^ k) (sym placed.count)
-
--- at most eight terms, each within 2^127
-eight : (y side n : ℕ) → n ≤ 3 → side ≡ 2 ^ n → y < side → y * 2 ^ 127 ≤ 2 ^ 130
-eight y side n few size lt =
-    let most : 2 ^ n ≤ 2 ^ 3 = pow_mono {j = 3} few in
-    omega arith
-
-zero_entry : (e : Entry) → ((j : ℕ) → e ≡ Omega j → ⊥) → e ≡ Zero
-zero_entry Zero h = refl
-zero_entry (Omega j) h = absurd (h j refl)
-
--- the own bits stand at the own place
-own_at : (side : Side) (n : ℕ) (r c : List Bool) (i j : ℕ) → length r ≡ n → length c ≡ n → place_of r ≡ i → place_of c ≡ j
-    → (length (own side r c) ≡ n) × (place_of (own side r c) ≡ own side i j)
-own_at Left n r c i j lr lc er ec = (lr, er)
-own_at Right n r c i j lr lc er ec = (lc, ec)
-
-pub plus_turned-sum-requires-clause-bounded : goal.plus_turned-sum-requires-clause-bounded
-plus_turned-sum-requires-clause-bounded c =
-    let g = c.args.gate.now in
-    let few : length g.on ≤ 3 = search rules in
-    let size : c.side-y-end.result ≡ 2 ^ length g.on = sized g _ c.side-y-end.ensures.sound c.side-y-end.ensures.value in
-    IsWithin-more (c.terms.y * 2 ^ 127) (2 ^ 130) _ (eight _ _ _ few size c.terms-test.true) c.terms.invariant.bounded
-
--- the sum with one term more, from what was added for it
-next_term : (side : Side) (g : Gate) (state : List Quad) (r c : List Bool) (y : ℕ) (sum next more : Quad) → y < 2 ^ length g.on
-    → sum ≡ sum_over (take y (all_lists (length g.on))) (part side g state r c)
-    → next ≡ sum_of sum more
-    → more ≡ part side g state r c (get_or (all_lists (length g.on)) y [])
-    → next ≡ sum_over (take (y + 1) (all_lists (length g.on))) (part side g state r c)
-next_term side g state r c y sum next more lt e f h =
-    let within : y < length (all_lists (length g.on)) = omega (arith, length-all_lists (length g.on)) in
-    f ∙ ap₂ sum_of e h ∙ sym (sum_over_more (all_lists (length g.on)) y (part side g state r c) within)
-
-pub terms-preserved : goal.terms-preserved
-unfolding part
-terms-preserved c =
+pub returns-then-all_set : goal.returns-then-all_set
+returns-then-all_set c = λ r d lr ld er ed.
     let side = c.args.side in
     let g = c.args.gate.now in
     let state = c.args.state.now in
-    let m = 2 ^ 127 in
-    let y = c.terms.y in
-    let from = c.place_put-from.result in
-    let q = get_or state from zero_quad in
-    let j = c.in-Omega.j in
-    let same : c.on-on.result.now ≡ g.on = c.on-on.ensures.on in
-    let size : c.side-y-end.result ≡ 2 ^ length g.on = sized g _ c.side-y-end.ensures.sound c.side-y-end.ensures.value in
-    let lt : y < 2 ^ length g.on = omega arith in
-    let here = listed (length g.on) y [] lt in
-    let b = get_or (all_lists (length g.on)) y [] in
-    record {
-      bounded = IsWithin-more (y * m + m) ((y + 1) * m) _ (omega arith) (c.plus_turned-sum.ensures.bounded (y * m) c.terms.invariant.bounded);
-      value = λ r d lr ld er ed.
-          let bits = own side r d in
-          let (lo, at) = own_at side c.args.qubits r d c.args.row c.args.column lr ld er ed in
-          let at' : place_of bits ≡ c.own-here.result = at ∙ sym c.own-here.ensures in
-          let row : c.row_of-bits.result ≡ place_of (bits_at bits g.on) = sym (c.row_of-bits.ensures.value bits lo at') ∙ ap (λ o. place_of (bits_at bits o)) same in
-          let z = with_bits bits g.on b in
-          let lz : length z ≡ c.args.qubits = length-with_bits bits g.on b ∙ lo in
-          let other : place_of z ≡ c.place_with-other.result =
-          ap (λ o. place_of (with_bits bits o b)) (sym same) ∙ c.place_with-other.ensures.value bits b lo at' (here.0 ∙ ap (λ (o : List ℕ). length o) (sym same)) here.1 in
-          let place : from ≡ place_of (put side r d z) = sym (c.place_put-from.ensures.value r d z lr ld lz er ed other) in
-          let value : times_entry (Omega j) q ≡ part side g state r d b =
-          ap₂ times_entry (sym c.in-Omega.is ∙ c.entry_on.ensures.value ∙ ap₂ (entry_on side g.kind) row (sym here.1)) (ap (λ i. get_or state i zero_quad) place) in
-          next_term side g state r d y (quad_value c.terms.sum) (quad_value c.plus_turned-sum.result) (times_entry (Omega j) q) lt (c.terms.invariant.value r d lr ld er ed) c.plus_turned-sum.ensures.value value;
-    }
-
-pub terms-preserved-in_default : goal.terms-preserved-in_default
-unfolding part
-terms-preserved-in_default c =
-    let side = c.args.side in
-    let g = c.args.gate.now in
-    let state = c.args.state.now in
-    let y = c.terms.y in
-    let same : c.on-on.result.now ≡ g.on = c.on-on.ensures.on in
-    let size : c.side-y-end.result ≡ 2 ^ length g.on = sized g _ c.side-y-end.ensures.sound c.side-y-end.ensures.value in
-    let lt : y < 2 ^ length g.on = omega arith in
-    let here = listed (length g.on) y [] lt in
-    let b = get_or (all_lists (length g.on)) y [] in
-    let nothing : c.entry_on.result ≡ Zero = zero_entry c.entry_on.result c.in_default.not-Omega in
-    record {
-      bounded = IsWithin-more (y * 2 ^ 127) ((y + 1) * 2 ^ 127) _ (omega arith) c.terms.invariant.bounded;
-      value = λ r d lr ld er ed.
-          let bits = own side r d in
-          let (lo, at) = own_at side c.args.qubits r d c.args.row c.args.column lr ld er ed in
-          let at' : place_of bits ≡ c.own-here.result = at ∙ sym c.own-here.ensures in
-          let row : c.row_of-bits.result ≡ place_of (bits_at bits g.on) = sym (c.row_of-bits.ensures.value bits lo at') ∙ ap (λ o. place_of (bits_at bits o)) same in
-          let value : zero_quad ≡ part side g state r d b =
-          ap (λ e. times_entry e (at_state side g state r d b)) (sym nothing ∙ c.entry_on.ensures.value ∙ ap₂ (entry_on side g.kind) row (sym here.1)) in
-          next_term side g state r d y (quad_value c.terms.sum) (quad_value c.terms.sum) zero_quad lt (c.terms.invariant.value r d lr ld er ed) (sym (sum_of-zero (quad_value c.terms.sum))) value;
-    }
-  where
-    at_state : Side → Gate → List Quad → List Bool → List Bool → List Bool → Quad
-    at_state side g state r d b = at state (put side r d (with_bits (own side r d) g.on b))
+    let bits = own side r d in
+    let (lo, at') = own_at side c.args.qubits r d c.args.row c.args.column lr ld er ed in
+    let on = ap (all_set bits) c.extra.ensures.extra in
+    let is : all_set bits g.extra ≡ true = sym on ∙ c.all_set.ensures bits lo (at' ∙ sym c.own-here.ensures) ∙ c.if-all_set.true in
+    c.block_after.ensures r d lr ld er ed
+    ∙ sym (step-parts side g state r d c.extra.ensures.sound.count
+    ∙ ap (λ b. cond b (sum_over (all_lists (length g.on)) (part side g state r d)) (times_entry (beside g.kind) (at state (r ++ d)))) is)
 
 pub returns : goal.returns
 returns c = λ r d lr ld er ed.
+    let side = c.args.side in
     let g = c.args.gate.now in
-    let size : c.side-y-end.result ≡ 2 ^ length g.on = sized g _ c.side-y-end.ensures.sound c.side-y-end.ensures.value in
-    let all : c.terms.y ≡ length (all_lists (length g.on)) = omega (arith, length-all_lists (length g.on)) in
-    c.terms.invariant.value r d lr ld er ed
-    ∙ ap (λ l. sum_over l (part c.args.side g c.args.state.now r d)) (ap (λ k. take k (all_lists (length g.on))) all ∙ take-length (all_lists (length g.on)))
-    ∙ sym (step-parts c.args.side g c.args.state.now r d)
+    let state = c.args.state.now in
+    let bits = own side r d in
+    let (lo, at') = own_at side c.args.qubits r d c.args.row c.args.column lr ld er ed in
+    let on = ap (all_set bits) c.extra.ensures.extra in
+    let is : all_set bits g.extra ≡ false = sym on ∙ c.all_set.ensures bits lo (at' ∙ sym c.own-here.ensures) ∙ c.if-all_set.false in
+    c.entry_times.ensures
+    ∙ ap₂ times_entry c.beside.ensures.value (ap (λ p. get_or state p zero_quad) (sym (c.joined_place-place.ensures.value r d lr ld er ed)))
+    ∙ sym (step-parts side g state r d c.extra.ensures.sound.count
+    ∙ ap (λ b. cond b (sum_over (all_lists (length g.on)) (part side g state r d)) (times_entry (beside g.kind) (at state (r ++ d)))) is)

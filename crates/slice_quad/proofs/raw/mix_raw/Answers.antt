@@ -1,7 +1,7 @@
 use Rattle.std.proofs.Common.{rules, ◌≡◌, length}
 use Rattle.diagram_ops.specs.Made.{StopIs}
 use Rattle.slice_quad.specs.Raws.{IsMix}
-use Rattle.slice_quad.proofs.Onwards.{gate_grows, gate_stops, raw_grows, raw_stops, raw_vector}
+use Rattle.slice_quad.proofs.Onwards.{gate_grows, gate_stops, raw_grows, raw_stops, raw_vector, reduced_as}
 use Rattle.slice_quad.proofs.raw.mix_raw.Goals as goal
 
 pub returns-in_err-gate-clause-grows : goal.returns-in_err-gate-clause-grows
@@ -50,7 +50,7 @@ returns-clause-values g c =
     let k = gate_grows u v t q c.gate_of.ensures.grows in
     let r = c.in_ok-gate.gate.target in let e = c.in_ok-gate.ensures.gate in
     let w = c.raw_of.new.d in
-    raw_vector u v t r q s h k e w.store c.in_ok-raw.raw c.in_ok-raw.ensures.raw c.requires.some
+    raw_vector u v t r q s h k e w.store c.in_ok-raw.raw (reduced_as t r e c.requires.reduced) c.in_ok-raw.ensures.raw c.requires.some
 
 pub returns-clause-grows : goal.returns-clause-grows
 returns-clause-grows g c =

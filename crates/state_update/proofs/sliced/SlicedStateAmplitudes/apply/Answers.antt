@@ -1,7 +1,7 @@
 use Rattle.std.proofs.Common.{◌≡◌, ◌+◌, ◌<◌, ◌≤◌, ◌∷◌, ◌++◌, [], ℕ, true, false, List, All, length, ap, sym, ◌∙◌, refl, subst, arith}
 use Rattle.std.proofs.Math.Path.{ap₂}
 use Rattle.gate_set.specs.declared.gate.Gate.{Gate}
-use Rattle.gate_set.specs.Shape.{IsOn}
+use Rattle.gate_set.specs.Shape.{qubits_of, IsOn}
 use Rattle.circuit_model.specs.Working.{FitsWidth, raw, work}
 use Rattle.diagram_model.specs.Stores.{Diagram, function_of}
 use Rattle.amp_dense.specs.Standing.{Standing, Fits, in_order, with_gate}
@@ -21,7 +21,7 @@ use Rattle.state_update.proofs.sliced.SlicedStateAmplitudes.apply.Goals as goal
 
 pub upkept_gate-requires-clause-below : goal.upkept_gate-requires-clause-below
 upkept_gate-requires-clause-below c =
-    let s = c.self.inside in let on = c.args.gate.now.on in
+    let s = c.self.inside in let on = qubits_of c.args.gate.now in
     subst (λ n. All (λ q. q < n) on) (ap (λ (t : State). length t.input) (sym c.self.view_is) ∙ sym c.self.invariant.variables) c.requires.within.below
 
 pub invariant_of-self-in-Ok : goal.invariant_of-self-in-Ok
@@ -32,7 +32,7 @@ invariant_of-self-in-Ok c =
     let w = work s.gates.items s.input in
     let u = s.diagrams in let v = c.upkept_gate.new.d in
     let keeps = c.upkept_gate.ensures.keeps in
-    let same : c.new.result ≡ g = c.new.ensures.value ∙ ap₂ (λ k o. let p : Gate = record { kind = k; on = o } in p) c.kind.ensures.kind c.on.ensures.on in
+    let same : c.copied.result ≡ g = c.copied.ensures.value in
     let gates : c.push_reserved.new.self.items ≡ s.gates.items ++ g ∷ [] = c.push_reserved.ensures.items ∙ ap₂ (λ l p. l ++ p ∷ []) c.reserve.ensures.items same in
     let on : IsOn (length s.input) g = subst (λ (t : State). IsOn (length t.input) g) (sym c.self.view_is) c.requires.within in
     let few : length s.gates.items < 2000000 = subst (λ (t : State). length t.gates < 2000000) (sym c.self.view_is) c.requires.few in
@@ -48,7 +48,7 @@ returns-in-Ok-clause-accepts c =
     let w = work s.gates.items s.input in
     let u = s.diagrams in let v = c.upkept_gate.new.d in
     let keeps = c.upkept_gate.ensures.keeps in
-    let same : c.new.result ≡ g = c.new.ensures.value ∙ ap₂ (λ k o. let p : Gate = record { kind = k; on = o } in p) c.kind.ensures.kind c.on.ensures.on in
+    let same : c.copied.result ≡ g = c.copied.ensures.value in
     let gates : c.push_reserved.new.self.items ≡ s.gates.items ++ g ∷ [] = c.push_reserved.ensures.items ∙ ap₂ (λ l p. l ++ p ∷ []) c.reserve.ensures.items same in
     let on : IsOn (length s.input) g = subst (λ (t : State). IsOn (length t.input) g) (sym c.self.view_is) c.requires.within in
     let few : length s.gates.items < 2000000 = subst (λ (t : State). length t.gates < 2000000) (sym c.self.view_is) c.requires.few in

@@ -3,8 +3,8 @@ use Rattle.ring_omega.specs.Bounds.{IsWithin}
 use Rattle.bit_lists.specs.Lists.{place_of, all_lists}
 use Rattle.circuit_model.specs.Product.{sum_over}
 use Rattle.quad_lists.specs.Sums.{quad_value}
-use Rattle.dense_matrix.proofs.Terms.{part}
-use Rattle.dense_matrix.proofs.step.entry_after.Given as goal
+use Rattle.dense_matrix.specs.Sides.{part}
+use Rattle.dense_matrix.proofs.step.block_after.Given as goal
 
 -- the sum of the terms so far, and a bound for each of them
 abbrev pub invariant-terms : goal.invariant-terms
