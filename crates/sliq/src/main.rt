@@ -6,7 +6,7 @@ ghost use Rattle.std.specs.Process.{exit_status};
 ghost use Rattle.causes.specs.declared.cause.Cause.{Cause};
 ghost use Rattle.sliq_engine.specs.Comes.{Comes};
 ghost use Rattle.sliq_engine.specs.Ending.{MayEnd};
-ghost use Rattle.causes.specs.Status.{status_of};
+ghost use Rattle.causes.specs.Status.{Tells, status_of, lines_of};
 
 use outside::{FileShelf, Shelf, Sink, StreamSink};
 use sliq_engine::{Cause, end, run};
@@ -22,7 +22,7 @@ fn main(rt: HostRuntime) -> ExitCode {
             if error.kind() == io::ErrorKind::OutOfMemory {
                 return out_of_memory();
             }
-            return ExitCode::from(end(Cause::BadWords, &mut err).status);
+            return bad_words(&mut err);
         }
     };
     let Ok(words) = words.collect::<Vec<String>>(rt.alloc()) else {
@@ -41,10 +41,19 @@ fn run_to_status<S: Shelf, K: Sink, E: Sink>(
     out: &mut K,
     err: &mut E,
 ) -> ExitCode
-    ensures { (cause : Cause) × MayEnd (Comes (record { text = S.text; faults = S.faults; ready = S.ready; taken = S.taken; ended = S.ended }) (map string_bytes words.now) shelf.old shelf.new) cause (K.written out.old) (K.written out.new) × (exit_status result ≡ status_of cause) }
+    ensures { (cause : Cause) × MayEnd (Comes (record { text = S.text; faults = S.faults; ready = S.ready; taken = S.taken; ended = S.ended }) (map string_bytes words.now) shelf.old shelf.new) cause (K.written out.old) (K.written out.new) × (exit_status result ≡ status_of cause)
+        × Tells (lines_of cause) (E.written err.old) (E.written err.new) (E.faults err.old) (E.faults err.new) }
 {
     let ended = run(alloc, words, shelf, out, err);
     ExitCode::from(ended.status)
+}
+
+// Words that are no texts ask for nothing.
+fn bad_words<E: Sink>(err: &mut E) -> ExitCode
+    ensures status { exit_status result ≡ status_of Cause.BadWords }
+    ensures err { Tells (lines_of Cause.BadWords) (E.written err.old) (E.written err.new) (E.faults err.old) (E.faults err.new) }
+{
+    ExitCode::from(end(Cause::BadWords, err).status)
 }
 
 // Without memory for the words nothing is printed.
