@@ -9,6 +9,7 @@ mod EqTexts
 mod CommandLemmas
 mod AskedRules
 mod OneRun
+mod HaveNodes
 mod EnoughNodes
 mod Completeness
 mod TextLemmas

@@ -1,14 +1,20 @@
 -- Words of the laws.
-use Rattle.std.specs.Prelude.{◌≡◌, ◌↔◌, ◌≤◌, ℕ, Bool, List, map, length, Some, Result, Ok, Err}
+use Rattle.std.specs.Prelude.{◌≡◌, ◌↔◌, ◌<◌, ◌≤◌, ℕ, Bool, List, [], ◌∷◌, map, length, Some, Result, Ok, Err}
 use Rattle.std.specs.List.{AllByRecursion}
 use Rattle.ring_omega.specs.Lowest.{lowest_form}
+use Rattle.gate_set.specs.declared.gate.Gate.{Gate}
 use Rattle.gate_set.specs.Circuits.{Circuit}
 use Rattle.circuit_model.specs.Product.{exponent}
 use Rattle.amp_printer.specs.declared.verdict.Verdict.TheVariants as verdicts
 use Rattle.amp_printer.specs.Verdicts.{verdict_text}
 use Rattle.comparison.specs.Scalars.{comparison, compared, corner, IsFirstDiffering}
+use Rattle.comparison.specs.Products.{Step}
 use Rattle.outside.specs.Memory.{Shelved, text_of}
 use Rattle.phases.specs.Phases.{Phase}
+use Rattle.amp_dense.specs.Rules.{Settings}
+use Rattle.amp_dense.specs.Standing.{Standing, begun, in_order, Applies}
+use Rattle.state_update.specs.Kept.{IsNextOrder, needed, work_of, sliced_policy}
+use Rattle.unitary_update.specs.Kept as matrix
 use Rattle.causes.specs.declared.cause.Cause.{Cause}
 use Rattle.causes.specs.declared.cause.Cause.TheVariants.{ReadFault, Nodes}
 use Rattle.sliq_engine.specs.Steps.{Output}
@@ -26,6 +32,26 @@ IsSure cause = IsNoFault cause
 -- no end of this is a want of nodes
 abbrev pub NeverLacksNodes : Phase Output Cause → Type 0
 NeverLacksNodes phase = (step : ℕ) (order : List ℕ) (held : ℕ) → ¬ phase (Err (Nodes step order held))
+
+-- each item has what it needs, on what the items before it hand on
+abbrev pub EachHas : {X G C : Type 0} → (X → G → Type 0) → (X → G → Phase X C) → X → List G → Type 0
+EachHas Needs phase x [] = Unit {0}
+EachHas {X = X} Needs phase x (g ∷ gs) = Needs x g × ((y : X) → phase x g (Ok y) → EachHas Needs phase y gs)
+
+-- a gate's work functions need fewer nodes than the rules allow, in the order in force at it
+abbrev pub HasNodes : Standing → Gate → Type 0
+HasNodes s g = (order : List ℕ) → IsNextOrder s order → needed (in_order s order) (work_of s g) < s.rules.nodes
+
+-- so it is with each of these gates, one after the other, on a basis state
+abbrev pub GatesHaveNodes : Settings → List Bool → List Gate → Type 0
+GatesHaveNodes rules input = EachHas HasNodes (Applies sliced_policy) (begun input rules)
+
+-- the same of a step of a comparison, and of each of these steps on the identity
+abbrev pub StepHasNodes : matrix.Standing → Step → Type 0
+StepHasNodes s t = (order : List ℕ) → matrix.IsNextOrder s order → matrix.needed (matrix.in_order s order) (matrix.work_of s t) < s.rules.nodes
+
+abbrev pub StepsHaveNodes : Settings → ℕ → List Step → Type 0
+StepsHaveNodes rules n = EachHas StepHasNodes matrix.Applies (matrix.begun n rules)
 
 -- it comes to this output, and to nothing else
 abbrev pub ComesTo : Phase Output Cause → Output → Type 0

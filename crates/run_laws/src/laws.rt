@@ -1,8 +1,10 @@
 //! Laws of the top call's definitions. Each call does nothing: its contract is the law.
-ghost use Rattle.std.specs.Prelude.{◌≡◌, ◌⊎◌, ◌↔◌, ◌≤◌, ◌∷◌, [], List, ℕ, ◌+◌, ◌*◌, ◌^◌, Bool, length, codes, Result, Ok, Err, Option, Some, IsSome};
+ghost use Rattle.std.specs.Prelude.{◌≡◌, ◌⊎◌, ◌↔◌, ◌≤◌, ◌∷◌, [], List, ℕ, ◌+◌, ◌*◌, ◌^◌, Bool, length, All, codes, Result, Ok, Err, Option, Some, IsSome};
+ghost use Rattle.gate_set.specs.declared.gate.Gate.{Gate};
 ghost use Rattle.gate_set.specs.Circuits.{Circuit};
+ghost use Rattle.gate_set.specs.Shape.{IsOn};
 ghost use Rattle.circuit_model.specs.Working.{work, AllFit};
-ghost use Rattle.comparison.specs.Products.{AllStepsFit};
+ghost use Rattle.comparison.specs.Products.{Step, gate_of, AllStepsFit};
 ghost use Rattle.comparison.specs.Scalars.{AreSame};
 ghost use Rattle.comparison.specs.Steps.{steps_of};
 ghost use Rattle.amp_dense.specs.Rules.{Settings};
@@ -14,7 +16,7 @@ ghost use Rattle.outside.specs.Memory.{Shelved, text_of, memory};
 ghost use Rattle.phases.specs.Phases.{Agree, HasOneEnd, HasSomeEnd};
 ghost use Rattle.sliq_words.specs.Asked.{Request, asked_of};
 ghost use Rattle.sliq_engine.specs.Comes.{CarriesOut, Comes};
-ghost use Rattle.run_laws.specs.Laws.{ComesTo, HasTexts, IsNoFault, IsSure, NeverLacksNodes, TellsFirst};
+ghost use Rattle.run_laws.specs.Laws.{ComesTo, GatesHaveNodes, HasTexts, IsNoFault, IsSure, NeverLacksNodes, StepsHaveNodes, TellsFirst};
 ghost use Rattle.sliq_engine.specs.Steps.{Output, zeros};
 ghost use Rattle.sliq_engine.specs.Sim.{input_for, sim_output, Sims};
 ghost use Rattle.sliq_engine.specs.Prob.{IsHeavy, prob_output, Weighs};
@@ -51,29 +53,35 @@ pub fn run_on_texts()
 }
 
 /// Enough nodes are always enough: where W bits a coefficient and N nodes are allowed, and N is (64·(W + 2) + 130)·2^n or more, no run on a text that reads as a
-/// circuit on n qubits ends for want of nodes. `eq` wants as many for twice the qubits, since its diagrams have two variables for each.
+/// circuit on n qubits ends for want of nodes. `eq` wants as many for twice the qubits, since its diagrams have two variables for each. Each gate, or step, then
+/// has nodes, as `complete` asks.
 pub fn enough_nodes()
     ensures sim { (rules : Settings) (bits : Option (List Bool)) (text : List ℕ) (c : Circuit) → ReadsAs text 64 (circuit c) → (64 * (rules.width + 2) + 130) * 2 ^ c.qubits ≤ rules.nodes → NeverLacksNodes (Sims bits rules text) }
     ensures prob { (rules : Settings) (text : List ℕ) (c : Circuit) → ReadsAs text 64 (circuit c) → (64 * (rules.width + 2) + 130) * 2 ^ c.qubits ≤ rules.nodes → NeverLacksNodes (Weighs rules text) }
     ensures demo { (rules : Settings) (qubits gates seed : ℕ) → 1 ≤ qubits → qubits ≤ 64 → gates ≤ 500000 → (64 * (rules.width + 2) + 130) * 2 ^ qubits ≤ rules.nodes → NeverLacksNodes (Demonstrates rules qubits gates seed) }
     ensures eq { (rules : Settings) (one two : List ℕ) (u : Circuit) → ReadsAs one 64 (circuit u) → (64 * (rules.width + 2) + 130) * 2 ^ (2 * u.qubits) ≤ rules.nodes → NeverLacksNodes (Compares rules one two) }
+    ensures gates { (rules : Settings) (input : List Bool) (gates : List Gate) → All (IsOn (length input)) gates → (64 * (rules.width + 2) + 130) * 2 ^ length input ≤ rules.nodes
+        → GatesHaveNodes rules input gates }
+    ensures steps { (rules : Settings) (n : ℕ) (steps : List Step) → All (λ t. IsOn n (gate_of t)) steps → (64 * (rules.width + 2) + 130) * 2 ^ (2 * n) ≤ rules.nodes
+        → (3 * n ≤ rules.nodes) × StepsHaveNodes rules n steps }
 {}
 
 /// Completeness. Where a text reads as a circuit, an input has as many bits as it has qubits, each gate fits the width, for `prob` all states weigh less than
-/// 2^127, and as many nodes are allowed as are always enough, a run comes to the output of that circuit, and to no cause and no other output; `eq` to what is
-/// to be said of two circuits on as many qubits. So it ends as Done, or for `eq` as Differs, but for a fault of the shelf or the sink, or a want of memory.
+/// 2^127, and each gate's work functions need fewer nodes than are allowed, in the order in force at it, a run comes to the output of that circuit, and to no
+/// cause and no other output; `eq`, where three nodes a qubit are allowed besides, to what is to be said of two circuits on as many qubits. So it ends as Done,
+/// or for `eq` as Differs, but for a fault of the shelf or the sink, or a want of memory.
 pub fn complete()
     ensures sim { (rules : Settings) (bits : Option (List Bool)) (text : List ℕ) (c : Circuit) → ReadsAs text 64 (circuit c) → c.qubits ≡ length (input_for bits c.qubits) → 2 ≤ rules.width
-        → AllFit rules.width (input_for bits c.qubits) c.gates → (64 * (rules.width + 2) + 130) * 2 ^ c.qubits ≤ rules.nodes
+        → AllFit rules.width (input_for bits c.qubits) c.gates → GatesHaveNodes rules (input_for bits c.qubits) c.gates
         → ComesTo (Sims bits rules text) (record { cause = Cause.Done; bytes = sim_output c.qubits (input_for bits c.qubits) c.gates }) }
     ensures prob { (rules : Settings) (text : List ℕ) (c : Circuit) → ReadsAs text 64 (circuit c) → 2 ≤ rules.width
-        → AllFit rules.width (zeros c.qubits) c.gates → ¬ IsHeavy c.qubits (work c.gates (zeros c.qubits)).entries → (64 * (rules.width + 2) + 130) * 2 ^ c.qubits ≤ rules.nodes
+        → AllFit rules.width (zeros c.qubits) c.gates → ¬ IsHeavy c.qubits (work c.gates (zeros c.qubits)).entries → GatesHaveNodes rules (zeros c.qubits) c.gates
         → ComesTo (Weighs rules text) (record { cause = Cause.Done; bytes = prob_output c }) }
     ensures demo { (rules : Settings) (qubits gates seed : ℕ) → 1 ≤ qubits → qubits ≤ 64 → gates ≤ 500000 → 2 ≤ rules.width
-        → AllFit rules.width (zeros qubits) (drawn_circuit qubits gates seed).gates → (64 * (rules.width + 2) + 130) * 2 ^ qubits ≤ rules.nodes
+        → AllFit rules.width (zeros qubits) (drawn_circuit qubits gates seed).gates → GatesHaveNodes rules (zeros qubits) (drawn_circuit qubits gates seed).gates
         → ComesTo (Demonstrates rules qubits gates seed) (record { cause = Cause.Done; bytes = demo_output qubits (drawn_circuit qubits gates seed).gates }) }
     ensures eq { (rules : Settings) (one two : List ℕ) (u v : Circuit) → ReadsAs one 64 (circuit u) → ReadsAs two 64 (circuit v) → u.qubits ≡ v.qubits → 2 ≤ rules.width
-        → AllStepsFit rules.width u.qubits (steps_of u.gates v.gates) → (64 * (rules.width + 2) + 130) * 2 ^ (2 * u.qubits) ≤ rules.nodes
+        → AllStepsFit rules.width u.qubits (steps_of u.gates v.gates) → 3 * u.qubits ≤ rules.nodes → StepsHaveNodes rules u.qubits (steps_of u.gates v.gates)
         → (end : Result Output Cause) → Compares rules one two end ↔ Says u v end }
 {
     let _ = Cause::Done;

@@ -1,0 +1,167 @@
+-- Where each gate, or each step, has nodes, none stops for want of them; and each has where as many are allowed as are always enough.
+use Rattle.std.proofs.Common.{◌≡◌, inl, inr, ℕ, ◌+◌, ◌*◌, ◌^◌, ◌<◌, ◌≤◌, Bool, List, [], ◌∷◌, length, Result, Ok, Err, All, refl, sym, ◌∙◌, subst, arith}
+use Rattle.std.specs.List.{range_with_len}
+use Rattle.std.proofs.lemmas.Bool.{cases_lt}
+use Rattle.std.proofs.lemmas.List.Elements.{All-nil, All-head, All-tail}
+use Rattle.std.proofs.lemmas.List.FromFn.{length-range_with_len}
+use Rattle.bit_lists.specs.Orders.{IsOrder}
+use Rattle.bit_lists.proofs.Variables.{natural_is_order}
+use Rattle.gate_set.specs.declared.gate.Gate.{Gate}
+use Rattle.gate_set.specs.Shape.{IsOn}
+use Rattle.comparison.specs.Products.{Step, gate_of}
+use Rattle.comparison.proofs.Undo.{heads}
+use Rattle.phases.specs.Phases.{Phase, GoesOn, ◌>>=◌, HandsOn, StopsWhere, Told, Through}
+use Rattle.amp_dense.specs.Rules.{Settings}
+use Rattle.amp_dense.specs.Standing.{Standing, begun, in_order, with_gate, Accepts, Applies, Walks}
+use Rattle.amp_dense.specs.declared.stop.Stop.{Stop}
+use Rattle.amp_dense.specs.declared.stop.Stop.TheVariants as stops
+use Rattle.state_update.specs.Kept.{needed, work_of, sliced_policy}
+use Rattle.state_update.proofs.Enough.{enough}
+use Rattle.state_update.proofs.Orders.{is_next_order}
+use Rattle.unitary_update.specs.Kept as matrix
+use Rattle.unitary_update.proofs.Enough as matrix_nodes
+use Rattle.unitary_update.proofs.Orders.{keeps_order}
+use Rattle.unitary_update.proofs.Chains.{only_width}
+use Rattle.causes.specs.declared.cause.Cause.{Cause}
+use Rattle.causes.specs.declared.cause.Cause.TheVariants.{Nodes, OutOfMemory}
+use Rattle.causes.specs.Stops.{cause_of}
+use Rattle.run_laws.specs.Laws.{EachHas, HasNodes, GatesHaveNodes, StepHasNodes, StepsHaveNodes}
+
+-- ---- phases whose stops are all of one sort
+abbrev pub StopsBy : {X C : Type 0} → (C → Type 0) → Phase X C → Type 0
+StopsBy {X} {C} S phase = (cause : C) → phase (Err cause) → S cause
+
+-- what is handed on is no stop
+pub by_handing_on : {X C : Type 0} (S : C → Type 0) (x : X) → StopsBy S (HandsOn {C = C} x)
+by_handing_on S x cause e = absurd (cc)
+
+pub by_test : {C : Type 0} (S : C → Type 0) (P : Type 0) (own : C) → S own → StopsBy S (StopsWhere P own)
+by_test S P own s cause h = subst S (sym h.1) s
+
+pub by_telling : {X D C : Type 0} (S : C → Type 0) (f : D → C) (phase : Phase X D) → StopsBy (λ d. S (f d)) phase → StopsBy S (Told f phase)
+by_telling S f phase h cause t = subst S (sym t.2) (h t.0 t.1)
+
+-- a phase behind a phase, which knows that the first one handed on what it goes on with
+pub by_both : {X Y C : Type 0} (S : C → Type 0) (first : Phase X C) (next : X → Phase Y C) → StopsBy S first → ((x : X) → first (Ok x) → StopsBy S (next x)) → StopsBy S (first >>= next)
+by_both {X} {Y} {C} S first next f n cause h = by h.0 h.1 h.2
+  where
+    by : (at : Result X C) → first at → GoesOn next at (Err cause) → S cause
+    by (Ok x) p goes = n x p cause goes
+    by (Err stop) p e = let same : stop ≡ cause = cc in subst S same (f stop p)
+
+-- items in a row that each have what they need
+pub each_stops : {X G C : Type 0} (S : C → Type 0) (Needs : X → G → Type 0) (phase : X → G → Phase X C) → ((x : X) (g : G) → Needs x g → StopsBy S (phase x g))
+    → (x : X) (gs : List G) → EachHas Needs phase x gs → StopsBy S (Through phase x gs)
+each_stops S Needs phase stops_by x [] has = by_handing_on S x
+each_stops S Needs phase stops_by x (g ∷ gs) has = by_both S (phase x g) (λ y. Through phase y gs) (stops_by x g has.0) (λ y a. each_stops S Needs phase stops_by y gs (has.1 y a))
+
+not_both : (m n : ℕ) → m < n → n ≤ m → ⊥
+not_both m n less more = omega (arith, less, more)
+
+fewer : (m n : ℕ) → ¬ (n ≤ m) → m < n
+fewer m n none = elim (cases_lt m n) [ inl less ↦ less | inr more ↦ absurd (none more) ]
+
+-- ---- gates
+-- any cause but a want of nodes or of memory, of which the second is none of a phase
+abbrev pub IsOther : Cause → Type 0
+IsOther (Nodes step order held) = ⊥
+IsOther OutOfMemory = ⊥
+IsOther cause = Unit {0}
+
+abbrev pub IsOtherStop : Stop → Type 0
+IsOtherStop stop = IsOther (cause_of stop)
+
+gate_stops : (s : Standing) (g : Gate) → HasNodes s g → StopsBy IsOtherStop (Applies sliced_policy s g)
+gate_stops s g has (stops.Width number) h = tt
+gate_stops s g has (stops.Nodes number order held) h = not_both (needed (in_order s order) (work_of s g)) s.rules.nodes (has order h.1.reordered) h.1.allowed
+gate_stops s g has stops.OutOfMemory h = h
+
+pub walk_stops : (rules : Settings) (input : List Bool) (gates : List Gate) → GatesHaveNodes rules input gates → StopsBy IsOtherStop (Walks sliced_policy (begun input rules) gates)
+walk_stops rules input gates = each_stops IsOtherStop HasNodes (Applies sliced_policy) gate_stops (begun input rules) gates
+
+-- ---- steps
+step_stops : (s : matrix.Standing) (t : Step) → StepHasNodes s t → StopsBy IsOtherStop (matrix.Applies s t)
+step_stops s t has (stops.Width number) h = tt
+step_stops s t has (stops.Nodes number order held) h = not_both (matrix.needed (matrix.in_order s order) (matrix.work_of s t)) s.rules.nodes (has order h.1.order_is) h.1.needs
+step_stops s t has stops.OutOfMemory h = h
+
+pub multiplies_stops : (rules : Settings) (n : ℕ) (steps : List Step) → 3 * n ≤ rules.nodes → StepsHaveNodes rules n steps → StopsBy IsOtherStop (matrix.Multiplies rules n steps)
+multiplies_stops rules n steps room has =
+    by_both IsOtherStop (matrix.Starts rules n) (λ _. Through matrix.Applies (matrix.begun n rules) steps) (λ cause lacks. absurd (not_both rules.nodes (3 * n) lacks.0 room))
+    (λ _ _. each_stops IsOtherStop StepHasNodes matrix.Applies step_stops (matrix.begun n rules) steps has)
+
+-- ---- enough nodes
+-- what each gate finds: rules with enough nodes, and an order of as many variables as qubits
+record IsRoomy (s : Standing) : Type 0 where
+  nodes : (64 * (s.rules.width + 2) + 130) * 2 ^ length s.input ≤ s.rules.nodes
+  order : IsOrder s.order
+  variables : length s.order ≡ length s.input
+
+roomy_begun : (input : List Bool) (rules : Settings) → (64 * (rules.width + 2) + 130) * 2 ^ length input ≤ rules.nodes → IsRoomy (begun input rules)
+roomy_begun input rules limit = record { nodes = limit; order = natural_is_order (length input); variables = length-range_with_len 0 (length input) }
+
+roomy_next : (s : Standing) (g : Gate) (t : Standing) → IsRoomy s → Accepts sliced_policy s g t → IsRoomy t
+roomy_next s g t room a = subst IsRoomy (sym a.same) next
+  where
+    is : IsOrder t.order × (length t.order ≡ length s.order)
+    is = is_next_order s t.order room.order a.order
+
+    next : IsRoomy (with_gate (in_order s t.order) g)
+    next = record { nodes = room.nodes; order = is.0; variables = is.1 ∙ room.variables }
+
+gate_finds : (s : Standing) (g : Gate) → IsRoomy s → IsOn (length s.input) g → HasNodes s g
+gate_finds s g room on order is =
+    fewer (needed (in_order s order) (work_of s g)) s.rules.nodes (enough (in_order s order) g on ((is_next_order s order room.order is).1 ∙ room.variables) room.nodes)
+
+-- gates in a row
+gates_from : (s : Standing) (gates : List Gate) → IsRoomy s → All (IsOn (length s.input)) gates → EachHas HasNodes (Applies sliced_policy) s gates
+gates_from s [] room on = tt
+gates_from s (g ∷ gates) room on =
+    let both = heads (length s.input) g gates on in
+    (gate_finds s g room both.0, λ t a. gates_from t gates (roomy_next s g t room a) (subst (λ (u : Standing). All (IsOn (length u.input)) gates) (sym a.same) both.1))
+
+pub gates_find : (rules : Settings) (input : List Bool) (gates : List Gate) → All (IsOn (length input)) gates → (64 * (rules.width + 2) + 130) * 2 ^ length input ≤ rules.nodes → GatesHaveNodes rules input gates
+gates_find rules input gates on limit = gates_from (begun input rules) gates (roomy_begun input rules limit) on
+
+-- the same of a step
+record HasRoom (s : matrix.Standing) : Type 0 where
+  order : IsOrder s.order
+  variables : length s.order ≡ 2 * s.qubits
+  nodes : (64 * (s.rules.width + 2) + 130) * 2 ^ (2 * s.qubits) ≤ s.rules.nodes
+
+room_next : (s : matrix.Standing) (t : Step) (r : matrix.Standing) → HasRoom s → matrix.Accepts s t r → HasRoom r
+room_next s t r room a =
+    let is = keeps_order s r.order room.order a.order in
+    subst HasRoom (sym a.same) (record { order = is.0; variables = is.1 ∙ room.variables; nodes = room.nodes })
+
+step_finds : (s : matrix.Standing) (t : Step) → HasRoom s → IsOn s.qubits (gate_of t) → StepHasNodes s t
+step_finds s t room on order is =
+    fewer (matrix.needed (matrix.in_order s order) (matrix.work_of s t)) s.rules.nodes
+    (λ more. matrix_nodes.enough s t on room.order room.variables room.nodes (length s.steps + 1) order s.rules.nodes (refl, record { order_is = is; needs = more; full_is = refl }))
+
+steps_from : (s : matrix.Standing) (steps : List Step) → HasRoom s → All (λ t. IsOn s.qubits (gate_of t)) steps → EachHas StepHasNodes matrix.Applies s steps
+steps_from s [] room on = tt
+steps_from s (t ∷ steps) room on =
+    let here = All-head (λ u. IsOn s.qubits (gate_of u)) t steps on in
+    let rest = All-tail (λ u. IsOn s.qubits (gate_of u)) t steps on in
+    (step_finds s t room here, λ r a. steps_from r steps (room_next s t r room a) (subst (λ (v : matrix.Standing). All (λ u. IsOn v.qubits (gate_of u)) steps) (sym a.same) rest))
+
+-- the identity has its nodes too
+module _ (rules : Settings) (n : ℕ) (limit : (64 * (rules.width + 2) + 130) * 2 ^ (2 * n) ≤ rules.nodes) where
+  identity_finds : 3 * n ≤ rules.nodes
+  identity_finds = elim (cases_lt rules.nodes (3 * n)) [ inl few ↦ absurd (lacking few) | inr room ↦ room ]
+    where
+      lacking : rules.nodes < 3 * n → ⊥
+      lacking few =
+          let stop : Stop = stops.Nodes 0 (range_with_len 0 (2 * n)) rules.nodes in
+          only_width rules n [] (All-nil (λ t. IsOn n (gate_of t))) limit stop (Err stop, (few, refl), refl)
+
+  begins : HasRoom (matrix.begun n rules)
+  begins = record { order = natural_is_order (2 * n); variables = length-range_with_len 0 (2 * n); nodes = limit }
+
+  all_find : (steps : List Step) → All (λ t. IsOn n (gate_of t)) steps → (3 * n ≤ rules.nodes) × StepsHaveNodes rules n steps
+  all_find steps on = (identity_finds, steps_from (matrix.begun n rules) steps begins on)
+
+pub steps_find : (rules : Settings) (n : ℕ) (steps : List Step) → All (λ t. IsOn n (gate_of t)) steps → (64 * (rules.width + 2) + 130) * 2 ^ (2 * n) ≤ rules.nodes
+    → (3 * n ≤ rules.nodes) × StepsHaveNodes rules n steps
+steps_find rules n steps on limit = all_find rules n limit steps on
