@@ -12,4 +12,5 @@ mod OneRun
 mod HaveNodes
 mod EnoughNodes
 mod Completeness
+mod FewNodes
 mod TextLemmas

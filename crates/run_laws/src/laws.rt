@@ -120,3 +120,10 @@ pub fn small_outputs()
     // The clauses name kinds; an import wants a use in code too.
     let _ = Kind::H;
 }
+
+/// That is far fewer than are always enough: a Bell pair over two bits a coefficient has nodes where 64 are allowed.
+pub fn few_nodes()
+    ensures { GatesHaveNodes (record { width = 2; nodes = 64; cache = 1; reclaim = 0; sift = 0 }) (zeros 2) (record { kind = Kind.H; on = 0 ∷ [] } ∷ record { kind = Kind.Cx; on = 0 ∷ 1 ∷ [] } ∷ []) }
+{
+    let _ = Kind::H;
+}
