@@ -14,6 +14,7 @@ pub mod Gathered
 pub mod Heres
 pub mod IdentityNodes
 pub mod IdentityParts
+pub mod MixChains
 pub mod MixLemmas
 pub mod Narrow
 pub mod Onwards
