@@ -25,6 +25,7 @@ pub fn start(alloc: Global, d: &mut Diagrams, x: &Bits) -> Result<SliceQuad, Sto
     ensures full { IfErr result (StartStopIs d.old.store (length x.now)) }
     ensures room { OnOk result (length x.now ≤ d.old.store.limit) }
     ensures extends { Extends d.old.store d.new.store }
+    ensures capacity { d.new.cache.capacity ≡ d.old.cache.capacity }
     ensures sound { IsConsistent d.new }
 {
     start_counted::<Brand>(alloc, d, x, Blank::new(1))
@@ -45,6 +46,7 @@ fn start_counted<L: Ledger>(
     ensures full { IfErr result (StartStopIs d.old.store (length x.now)) }
     ensures room { OnOk result (length x.now ≤ d.old.store.limit) }
     ensures extends { Extends d.old.store d.new.store }
+    ensures capacity { d.new.cache.capacity ≡ d.old.cache.capacity }
     ensures sound { IsConsistent d.new }
 {
     let mut steps = Steps::<L>::new(blank);

@@ -27,6 +27,7 @@ pub fn identity(alloc: Global, d: &mut Diagrams, qubits: u8) -> Result<SliceQuad
     ensures full { IfErr result (StartStopIs d.old.store (3 * qubits)) }
     ensures room { OnOk result (3 * qubits ≤ d.old.store.limit) }
     ensures extends { Extends d.old.store d.new.store }
+    ensures capacity { d.new.cache.capacity ≡ d.old.cache.capacity }
     ensures sound { IsConsistent d.new }
 {
     identity_counted::<Brand>(alloc, d, qubits, Blank::new(1))
@@ -47,6 +48,7 @@ fn identity_counted<L: Ledger>(
     ensures full { IfErr result (StartStopIs d.old.store (3 * qubits)) }
     ensures room { OnOk result (3 * qubits ≤ d.old.store.limit) }
     ensures extends { Extends d.old.store d.new.store }
+    ensures capacity { d.new.cache.capacity ≡ d.old.cache.capacity }
     ensures sound { IsConsistent d.new }
 {
     let mut steps = Steps::<L>::new(blank);

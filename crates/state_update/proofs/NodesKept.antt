@@ -56,7 +56,7 @@ quad_kept q u v h k = keeps_sifted u v q (nodes_in q) (numbers_in q) h k.nodes k
 pub kept_upkept : (s : State) (v : StoreAndCache) → IsKept s → KeepsNodes s.quad s.diagrams v → IsKept (with_diagrams s v)
 kept_upkept s v h k =
     let still = quad_kept s.quad s.diagrams v h.stands k in
-    kept_stop s v h still.sound still.variables still.limit still.stands (shows_kept s.diagrams v s.quad (work s.gates s.input) still h.shows)
+    kept_stop s v h still.sound still.variables still.limit still.capacity still.stands (shows_kept s.diagrams v s.quad (work s.gates s.input) still h.shows)
 
 -- ---- each upkeep
 pub same_kept : (u : StoreAndCache) (q : SliceQuad) → IsConsistent u → Stands u.store q → KeepsNodes q u u

@@ -52,8 +52,8 @@ abbrev pub state_with : List Bool → Settings → List Gate → StoreAndCache �
 state_with input rules gates d q = record { input = input; rules = rules; gates = gates; diagrams = d; quad = q }
 
 pub kept_start : (input : List Bool) (rules : Settings) (gates : List Gate) (d : StoreAndCache) (q : SliceQuad) → length input ≤ 64 → AreRules rules → gates ≡ [] → IsConsistent d
-    → d.store.order ≡ range_with_len 0 (length input) → d.store.limit ≡ rules.nodes → IsStart d.store input q → IsKept (state_with input rules gates d q)
-kept_start input rules gates d q few are none sound order limit h = rw none begun
+    → d.store.order ≡ range_with_len 0 (length input) → d.store.limit ≡ rules.nodes → d.cache.capacity ≡ rules.cache → IsStart d.store input q → IsKept (state_with input rules gates d q)
+kept_start input rules gates d q few are none sound order limit capacity h = rw none begun
   where
     begun : IsKept (state_with input rules [] d q)
     begun = record {
@@ -63,6 +63,7 @@ kept_start input rules gates d q few are none sound order limit h = rw none begu
       sound = sound;
       variables = size_of_order d.store.order (length input) order;
       limit = limit;
+      capacity = capacity;
       stands = h.stands;
       shows = start_shows d.store input q h (size_of_order d.store.order (length input) order);
       small = let e = h.exponent in omega (arith, e);
@@ -72,10 +73,10 @@ kept_start input rules gates d q few are none sound order limit h = rw none begu
 
 -- ---- one gate more
 pub kept_next : (s : State) (g : Gate) (gates : List Gate) (v : StoreAndCache) (r : SliceQuad) → IsKept s → IsOn (length s.input) g → length s.gates < 2000000 → gates ≡ s.gates ++ g ∷ []
-    → IsConsistent v → length v.store.order ≡ length s.diagrams.store.order → v.store.limit ≡ s.diagrams.store.limit → Stands v.store r
+    → IsConsistent v → length v.store.order ≡ length s.diagrams.store.order → v.store.limit ≡ s.diagrams.store.limit → v.cache.capacity ≡ s.diagrams.cache.capacity → Stands v.store r
     → Shows v.store r (step (length s.diagrams.store.order) (work s.gates s.input) g) → length r.four.a ≤ s.rules.width → r.kept ≡ s.quad.kept
     → IsKept (state_with s.input s.rules gates v r)
-kept_next s g gates v r h on few more sound variables limit stands shows narrow kept = rw more next
+kept_next s g gates v r h on few more sound variables limit capacity stands shows narrow kept = rw more next
   where
     n : ℕ
     n = length s.input
@@ -100,6 +101,7 @@ kept_next s g gates v r h on few more sound variables limit stands shows narrow 
       sound = sound;
       variables = variables ∙ h.variables;
       limit = limit ∙ h.limit;
+      capacity = capacity ∙ h.capacity;
       stands = stands;
       shows = subst (λ (u : Scaled). Shows v.store r u) vector shows;
       small =
@@ -113,15 +115,16 @@ kept_next s g gates v r h on few more sound variables limit stands shows narrow 
     }
 
 -- after a stop
-pub kept_stop : (s : State) (v : StoreAndCache) → IsKept s → IsConsistent v → length v.store.order ≡ length s.diagrams.store.order → v.store.limit ≡ s.diagrams.store.limit → Stands v.store s.quad
+pub kept_stop : (s : State) (v : StoreAndCache) → IsKept s → IsConsistent v → length v.store.order ≡ length s.diagrams.store.order → v.store.limit ≡ s.diagrams.store.limit → v.cache.capacity ≡ s.diagrams.cache.capacity → Stands v.store s.quad
     → Shows v.store s.quad (work s.gates s.input) → IsKept (state_with s.input s.rules s.gates v s.quad)
-kept_stop s v h sound variables limit stands shows = record {
+kept_stop s v h sound variables limit capacity stands shows = record {
   few_qubits = h.few_qubits;
   few_gates = h.few_gates;
   within = h.within;
   sound = sound;
   variables = variables ∙ h.variables;
   limit = limit ∙ h.limit;
+  capacity = capacity ∙ h.capacity;
   stands = stands;
   shows = shows;
   small = h.small;

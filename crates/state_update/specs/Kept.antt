@@ -38,6 +38,7 @@ pub record IsKept (s : State) : Type 0 where
   pub sound : IsConsistent s.diagrams
   pub variables : length s.diagrams.store.order ≡ length s.input
   pub limit : s.diagrams.store.limit ≡ s.rules.nodes
+  pub capacity : s.diagrams.cache.capacity ≡ s.rules.cache
   pub stands : Stands s.diagrams.store s.quad
   pub shows : Shows s.diagrams.store s.quad (work s.gates s.input)
   pub small : s.quad.exponent ≤ length s.gates

@@ -47,6 +47,8 @@ impl SlicedState {
         ensures diagrams { result.0.now ≡ self.now.diagrams }
         ensures quad { result.1.now ≡ self.now.quad }
         ensures variables { length self.now.diagrams.store.order ≡ length self.now.input }
+        ensures limit { self.now.diagrams.store.limit ≡ self.now.rules.nodes }
+        ensures capacity { self.now.diagrams.cache.capacity ≡ self.now.rules.cache }
         ensures stands { Stands self.now.diagrams.store self.now.quad }
         ensures shows { Shows self.now.diagrams.store self.now.quad (vector (standing_of self.now)) }
         ensures kept { self.now.quad.kept.0 ≡ 0 }

@@ -118,8 +118,8 @@ abbrev pub state_with : ℕ → Settings → List Step → StoreAndCache → Sli
 state_with n rules steps d q = record { qubits = n; rules = rules; steps = steps; diagrams = d; quad = q }
 
 pub kept_start : (n : ℕ) (rules : Settings) (steps : List Step) (d : StoreAndCache) (q : SliceQuad) → n ≤ 64 → AreRules rules → steps ≡ [] → IsConsistent d
-    → d.store.order ≡ range_with_len 0 (2 * n) → d.store.limit ≡ rules.nodes → IsIdentity d.store n q → IsKept (state_with n rules steps d q)
-kept_start n rules steps d q few are none sound order limit h = rw none begun
+    → d.store.order ≡ range_with_len 0 (2 * n) → d.store.limit ≡ rules.nodes → d.cache.capacity ≡ rules.cache → IsIdentity d.store n q → IsKept (state_with n rules steps d q)
+kept_start n rules steps d q few are none sound order limit capacity h = rw none begun
   where
     begun : IsKept (state_with n rules [] d q)
     begun = record {
@@ -128,6 +128,7 @@ kept_start n rules steps d q few are none sound order limit h = rw none begun
       sound = sound;
       variables = size_of_order d.store.order (2 * n) order;
       limit = limit;
+      capacity = capacity;
       stands = h.stands;
       shows = start_shows n d.store q h;
       small = let e = h.exponent in omega (arith, e);
@@ -137,10 +138,10 @@ kept_start n rules steps d q few are none sound order limit h = rw none begun
 
 -- ---- one step more
 pub kept_next : (s : State) (t : Step) (steps : List Step) (v : StoreAndCache) (r : SliceQuad) → IsKept s → length s.steps < 2000000 → steps ≡ s.steps ++ t ∷ []
-    → IsConsistent v → length v.store.order ≡ length s.diagrams.store.order → v.store.limit ≡ s.diagrams.store.limit → Stands v.store r
+    → IsConsistent v → length v.store.order ≡ length s.diagrams.store.order → v.store.limit ≡ s.diagrams.store.limit → v.cache.capacity ≡ s.diagrams.cache.capacity → Stands v.store r
     → ShowsMatrix s.qubits v.store r (step_matrix s.qubits (work_matrix s.qubits s.steps) t) → r.exponent ≤ s.quad.exponent + 1 → length r.four.a ≤ s.rules.width
     → KeepsRowEqualsColumn s.qubits v.store r → IsKept (state_with s.qubits s.rules steps v r)
-kept_next s t steps v r h few more sound variables limit stands shows over narrow kept = rw more next
+kept_next s t steps v r h few more sound variables limit capacity stands shows over narrow kept = rw more next
   where
     long : length (s.steps ++ t ∷ []) ≡ length s.steps + 1
     long = length-append {A = Step} s.steps (t ∷ [])
@@ -152,6 +153,7 @@ kept_next s t steps v r h few more sound variables limit stands shows over narro
       sound = sound;
       variables = variables ∙ h.variables;
       limit = limit ∙ h.limit;
+      capacity = capacity ∙ h.capacity;
       stands = stands;
       shows = subst (λ (u : Scaled). ShowsMatrix s.qubits v.store r u) (sym (work_matrix-last s.qubits s.steps t)) shows;
       small = let small = h.small in omega (arith, over, small, long);
@@ -160,14 +162,15 @@ kept_next s t steps v r h few more sound variables limit stands shows over narro
     }
 
 -- after a stop
-pub kept_stop : (s : State) (v : StoreAndCache) → IsKept s → IsConsistent v → length v.store.order ≡ length s.diagrams.store.order → v.store.limit ≡ s.diagrams.store.limit → Stands v.store s.quad
+pub kept_stop : (s : State) (v : StoreAndCache) → IsKept s → IsConsistent v → length v.store.order ≡ length s.diagrams.store.order → v.store.limit ≡ s.diagrams.store.limit → v.cache.capacity ≡ s.diagrams.cache.capacity → Stands v.store s.quad
     → ShowsMatrix s.qubits v.store s.quad (work_matrix s.qubits s.steps) → KeepsRowEqualsColumn s.qubits v.store s.quad → IsKept (state_with s.qubits s.rules s.steps v s.quad)
-kept_stop s v h sound variables limit stands shows kept = record {
+kept_stop s v h sound variables limit capacity stands shows kept = record {
   few_qubits = h.few_qubits;
   few_steps = h.few_steps;
   sound = sound;
   variables = variables ∙ h.variables;
   limit = limit ∙ h.limit;
+  capacity = capacity ∙ h.capacity;
   stands = stands;
   shows = shows;
   small = h.small;

@@ -147,6 +147,7 @@ pub record IsKept (m : State) : Type 0 where
   pub sound : IsConsistent m.diagrams
   pub variables : length m.diagrams.store.order ≡ 2 * m.qubits
   pub limit : m.diagrams.store.limit ≡ m.rules.nodes
+  pub capacity : m.diagrams.cache.capacity ≡ m.rules.cache
   pub stands : Stands m.diagrams.store m.quad
   pub shows : ShowsMatrix m.qubits m.diagrams.store m.quad (work_matrix m.qubits m.steps)
   pub small : m.quad.exponent ≤ length m.steps

@@ -206,6 +206,8 @@ impl SlicedMatrix {
         ensures diagrams { result.0.now ≡ self.now.diagrams }
         ensures quad { result.1.now ≡ self.now.quad }
         ensures variables { length self.now.diagrams.store.order ≡ 2 * self.now.qubits }
+        ensures limit { self.now.diagrams.store.limit ≡ self.now.rules.nodes }
+        ensures capacity { self.now.diagrams.cache.capacity ≡ self.now.rules.cache }
         ensures stands { Stands self.now.diagrams.store self.now.quad }
         ensures shows { ShowsMatrix self.now.qubits self.now.diagrams.store self.now.quad (work_matrix self.now.qubits self.now.steps) }
         ensures kept { KeepsRowEqualsColumn self.now.qubits self.now.diagrams.store self.now.quad }

@@ -7,3 +7,15 @@ returns-clause-variables c =
     let s = c.args.self.now in
     let kept : IsKept s = subst IsKept c.self.view_is c.self.invariant in
     kept.variables
+
+pub returns-clause-limit : goal.returns-clause-limit
+returns-clause-limit c =
+    let s = c.args.self.now in
+    let kept : IsKept s = subst IsKept c.self.view_is c.self.invariant in
+    kept.limit
+
+pub returns-clause-capacity : goal.returns-clause-capacity
+returns-clause-capacity c =
+    let s = c.args.self.now in
+    let kept : IsKept s = subst IsKept c.self.view_is c.self.invariant in
+    kept.capacity

@@ -37,7 +37,7 @@ invariant_of-self-in-Ok c =
     let on : IsOn (length s.input) g = subst (λ (t : State). IsOn (length t.input) g) (sym c.self.view_is) c.requires.within in
     let few : length s.gates.items < 2000000 = subst (λ (t : State). length t.gates < 2000000) (sym c.self.view_is) c.requires.few in
     let narrow = c.in-Ok.ensures.narrow in let width = c.width-width.ensures.value in
-    kept_next shown g c.push_reserved.new.self.items v c.upkept_gate.new.q h on few gates keeps.sound keeps.variables keeps.limit c.upkept_gate.ensures.stands
+    kept_next shown g c.push_reserved.new.self.items v c.upkept_gate.new.q h on few gates keeps.sound keeps.variables keeps.limit keeps.capacity c.upkept_gate.ensures.stands
     (c.in-Ok.ensures.shown w h.shows) (omega (arith, narrow, width)) c.upkept_gate.ensures.kept
 
 pub returns-in-Ok-clause-accepts : goal.returns-in-Ok-clause-accepts
@@ -57,7 +57,7 @@ returns-in-Ok-clause-accepts c =
     let standing : List Gate → Standing = λ l. record { input = s.input; rules = s.rules; gates = l; order = v.store.order } in
     let later : State → Standing = λ t. with_gate (in_order (standing_of t) v.store.order) g in
     let next : IsKept (state_with s.input s.rules (s.gates.items ++ g ∷ []) v c.upkept_gate.new.q) =
-    kept_next shown g (s.gates.items ++ g ∷ []) v c.upkept_gate.new.q h on few refl keeps.sound keeps.variables keeps.limit c.upkept_gate.ensures.stands
+    kept_next shown g (s.gates.items ++ g ∷ []) v c.upkept_gate.new.q h on few refl keeps.sound keeps.variables keeps.limit keeps.capacity c.upkept_gate.ensures.stands
     (c.in-Ok.ensures.shown w h.shows) (omega (arith, narrow, width)) c.upkept_gate.ensures.kept in
     let stored : needed (later shown) (stored_of (later shown)) ≤ s.rules.nodes = stored_few (state_with s.input s.rules (s.gates.items ++ g ∷ []) v c.upkept_gate.new.q) next in
     let sift : c.schedule_of-schedule.result.sift ≡ s.rules.sift = ap (λ (t : Schedule). t.sift) c.schedule_of-schedule.ensures in
@@ -104,7 +104,7 @@ invariant_of-self-in-Err-Width c =
     let u = s.diagrams in let v = c.upkept_gate.new.d in
     let keeps = c.upkept_gate.ensures.keeps in
     let stands : Stands v.store s.quad = subst (λ (q : SliceQuad). Stands v.store q) c.in-Err-Width.ensures.refused c.upkept_gate.ensures.stands in
-    let kept : IsKept (state_with s.input s.rules s.gates.items v s.quad) = kept_stop shown v h keeps.sound keeps.variables keeps.limit stands (shows_kept u v s.quad w keeps h.shows) in
+    let kept : IsKept (state_with s.input s.rules s.gates.items v s.quad) = kept_stop shown v h keeps.sound keeps.variables keeps.limit keeps.capacity stands (shows_kept u v s.quad w keeps h.shows) in
     rw (c.reserve.ensures.items, c.in-Err-Width.ensures.refused) kept
 
 pub returns-in-Err-Width-clause-order : goal.returns-in-Err-Width-clause-order
@@ -128,7 +128,7 @@ invariant_of-self-in-Err-Full c =
     let u = s.diagrams in let v = c.upkept_gate.new.d in
     let keeps = c.upkept_gate.ensures.keeps in
     let stands : Stands v.store s.quad = subst (λ (q : SliceQuad). Stands v.store q) c.in-Err-Full.ensures.refused c.upkept_gate.ensures.stands in
-    let kept : IsKept (state_with s.input s.rules s.gates.items v s.quad) = kept_stop shown v h keeps.sound keeps.variables keeps.limit stands (shows_kept u v s.quad w keeps h.shows) in
+    let kept : IsKept (state_with s.input s.rules s.gates.items v s.quad) = kept_stop shown v h keeps.sound keeps.variables keeps.limit keeps.capacity stands (shows_kept u v s.quad w keeps h.shows) in
     rw (c.reserve.ensures.items, c.in-Err-Full.ensures.refused) kept
 
 pub returns-in-Err-Full-clause-order : goal.returns-in-Err-Full-clause-order
@@ -152,7 +152,7 @@ invariant_of-self-in-Err-OutOfMemory c =
     let u = s.diagrams in let v = c.upkept_gate.new.d in
     let keeps = c.upkept_gate.ensures.keeps in
     let stands : Stands v.store s.quad = subst (λ (q : SliceQuad). Stands v.store q) c.in-Err-OutOfMemory.ensures.refused c.upkept_gate.ensures.stands in
-    let kept : IsKept (state_with s.input s.rules s.gates.items v s.quad) = kept_stop shown v h keeps.sound keeps.variables keeps.limit stands (shows_kept u v s.quad w keeps h.shows) in
+    let kept : IsKept (state_with s.input s.rules s.gates.items v s.quad) = kept_stop shown v h keeps.sound keeps.variables keeps.limit keeps.capacity stands (shows_kept u v s.quad w keeps h.shows) in
     rw (c.reserve.ensures.items, c.in-Err-OutOfMemory.ensures.refused) kept
 
 pub returns-in-Err-OutOfMemory-clause-order : goal.returns-in-Err-OutOfMemory-clause-order

@@ -1,5 +1,6 @@
 use Rattle.std.proofs.Common.{◌≡◌, ◌∙◌, ap, sym}
 use Rattle.std.specs.List.{range_with_len}
+use Rattle.computed_cache.specs.Entries.{Cached}
 use Rattle.amp_dense.specs.Rules.{Settings}
 use Rattle.amp_dense.specs.contracts.rules.Rules.{the_view as rules_view}
 use Rattle.state_update.specs.Kept.{IsKept}
@@ -17,5 +18,6 @@ invariant_of-result-2 c =
     kept_start input c.args.rules.now c.new-2.result.items c.start.new.d c.in-Ok.quad c.requires c.width-width.ensures.sound c.new-2.ensures.items c.start.ensures.sound
     (extends.order ∙ c.in_ok-diagrams.ensures.order ∙ ap (range_with_len 0) c.len.ensures.value)
     (extends.limit ∙ c.in_ok-diagrams.ensures.limit ∙ ap (λ (r : Settings). r.nodes) same)
+    (c.start.ensures.capacity ∙ ap (λ (e : Cached). e.capacity) c.in_ok-diagrams.ensures.cache ∙ ap (λ (r : Settings). r.cache) same)
     c.in-Ok.ensures.start in
     rw same kept

@@ -38,7 +38,7 @@ invariant_of-self-in-Ok c =
     let steps : map step_in c.push_reserved.new.self.items ≡ map step_in s.steps.items ++ t ∷ [] = ap (map step_in) items ∙ map_push step_in s.steps.items c.args.factor in
     let few : length (map step_in s.steps.items) < 2000000 = subst (λ (m : State). length m.steps < 2000000) (sym c.self.view_is) c.requires.few in
     let narrow = c.in-Ok.ensures.narrow in let width = c.width-width.ensures.value in
-    kept_next shown t (map step_in c.push_reserved.new.self.items) v c.multiply.new.q h few steps keeps.sound keeps.variables keeps.limit c.multiply.ensures.stands
+    kept_next shown t (map step_in c.push_reserved.new.self.items) v c.multiply.new.q h few steps keeps.sound keeps.variables keeps.limit keeps.capacity c.multiply.ensures.stands
     (c.in-Ok.ensures.shown w h.shows) c.in-Ok.ensures.raised (omega (arith, narrow, width))
     (keeps_on s.qubits u v s.quad c.multiply.new.q keeps c.multiply.ensures.kept h.kept)
 
@@ -60,7 +60,7 @@ returns-in-Ok-clause-accepts c =
     let fits : RawStepFits s.rules.width s.qubits (map step_in s.steps.items) t = fits_state shown t c.width-width.result c.width-width.ensures.value (c.in-Ok.ensures.fits w h.shows) in
     let standing : List Step → Standing = λ l. record { qubits = s.qubits; rules = s.rules; steps = l; order = v.store.order } in
     let kept : IsKept (state_with s.qubits s.rules (map step_in s.steps.items ++ t ∷ []) v c.multiply.new.q) =
-    kept_next shown t (map step_in s.steps.items ++ t ∷ []) v c.multiply.new.q h few refl keeps.sound keeps.variables keeps.limit c.multiply.ensures.stands
+    kept_next shown t (map step_in s.steps.items ++ t ∷ []) v c.multiply.new.q h few refl keeps.sound keeps.variables keeps.limit keeps.capacity c.multiply.ensures.stands
     (c.in-Ok.ensures.shown w h.shows) c.in-Ok.ensures.raised (omega (arith, narrow, width))
     (keeps_on s.qubits u v s.quad c.multiply.new.q keeps c.multiply.ensures.kept h.kept) in
     let stored : IsStored (with_step (in_order (standing_of shown) v.store.order) t) = stored_few (state_with s.qubits s.rules (map step_in s.steps.items ++ t ∷ []) v c.multiply.new.q) kept in
@@ -105,7 +105,7 @@ invariant_of-self-in-Err-Width c =
     let u = s.diagrams in let v = c.multiply.new.d in
     let keeps = c.multiply.ensures.keeps in
     let kept : IsKept (state_with s.qubits s.rules (map step_in s.steps.items) v s.quad) =
-    kept_stop shown v h keeps.sound keeps.variables keeps.limit keeps.stands (shows_on s.qubits u v s.quad w keeps h.shows)
+    kept_stop shown v h keeps.sound keeps.variables keeps.limit keeps.capacity keeps.stands (shows_on s.qubits u v s.quad w keeps h.shows)
     (keeps_on s.qubits u v s.quad s.quad keeps refl h.kept) in
     rw (c.reserve.ensures.items, c.in-Err-Width.ensures.refused) kept
 
@@ -138,7 +138,7 @@ invariant_of-self-in-Err-Full c =
     let u = s.diagrams in let v = c.multiply.new.d in
     let keeps = c.multiply.ensures.keeps in
     let kept : IsKept (state_with s.qubits s.rules (map step_in s.steps.items) v s.quad) =
-    kept_stop shown v h keeps.sound keeps.variables keeps.limit keeps.stands (shows_on s.qubits u v s.quad w keeps h.shows)
+    kept_stop shown v h keeps.sound keeps.variables keeps.limit keeps.capacity keeps.stands (shows_on s.qubits u v s.quad w keeps h.shows)
     (keeps_on s.qubits u v s.quad s.quad keeps refl h.kept) in
     rw (c.reserve.ensures.items, c.in-Err-Full.ensures.refused) kept
 
@@ -171,7 +171,7 @@ invariant_of-self-in-Err-OutOfMemory c =
     let u = s.diagrams in let v = c.multiply.new.d in
     let keeps = c.multiply.ensures.keeps in
     let kept : IsKept (state_with s.qubits s.rules (map step_in s.steps.items) v s.quad) =
-    kept_stop shown v h keeps.sound keeps.variables keeps.limit keeps.stands (shows_on s.qubits u v s.quad w keeps h.shows)
+    kept_stop shown v h keeps.sound keeps.variables keeps.limit keeps.capacity keeps.stands (shows_on s.qubits u v s.quad w keeps h.shows)
     (keeps_on s.qubits u v s.quad s.quad keeps refl h.kept) in
     rw (c.reserve.ensures.items, c.in-Err-OutOfMemory.ensures.refused) kept
 

@@ -1,5 +1,6 @@
 use Rattle.std.proofs.Common.{◌≡◌, ◌<◌, ◌≤◌, ◌*◌, ◌∙◌, ap, subst, map, refl}
 use Rattle.amp_dense.specs.Rules.{Settings}
+use Rattle.computed_cache.specs.Entries.{Cached}
 use Rattle.diagram_model.specs.Stores.{Diagram}
 use Rattle.slice_quad.specs.Started.{StartStopIs}
 use Rattle.amp_dense.specs.contracts.rules.Rules.{the_view as rules_view}
@@ -15,6 +16,7 @@ invariant_of-result-in-Ok c =
     kept_start c.args.qubits c.args.rules.now (map step_in c.new-in-Ok.result.items) c.identity.new.d c.in-Ok.quad c.requires c.width-width.ensures.sound (ap (map step_in) c.new-in-Ok.ensures.items) c.identity.ensures.sound
     (extends.order ∙ c.in_ok-diagrams.ensures.order)
     (extends.limit ∙ c.in_ok-diagrams.ensures.limit ∙ ap (λ (r : Settings). r.nodes) same)
+    (c.identity.ensures.capacity ∙ ap (λ (e : Cached). e.capacity) c.in_ok-diagrams.ensures.cache ∙ ap (λ (r : Settings). r.cache) same)
     c.in-Ok.ensures.identity in
     rw same kept
 
