@@ -123,7 +123,7 @@ pub fn small_outputs()
 
 /// That is far fewer than are always enough: a Bell pair over two bits a coefficient has nodes where 64 are allowed.
 pub fn few_nodes()
-    ensures { GatesHaveNodes (record { width = 2; nodes = 64; cache = 1; reclaim = 0; sift = 0 }) (zeros 2) (record { kind = Kind.H; on = 0 ∷ [] } ∷ record { kind = Kind.Cx; on = 0 ∷ 1 ∷ [] } ∷ []) }
+    ensures { GatesHaveNodes (record { width = 2; nodes = 64; cache = 1; reclaim = 0; sift = 0 }) (zeros 2) (record { kind = Kind.H; on = 0 ∷ []; extra = [] } ∷ record { kind = Kind.Cx; on = 0 ∷ 1 ∷ []; extra = [] } ∷ []) }
 {
     let _ = Kind::H;
 }
