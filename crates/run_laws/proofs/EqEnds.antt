@@ -1,5 +1,5 @@
 -- `eq` has one end, and which cause it is.
-use Rattle.std.proofs.Common.{◌≡◌, ◌↔◌, ℕ, ◌≤◌, List, Result, Ok, Err, All, refl, sym, ◌∙◌, ap, subst, arith}
+use Rattle.std.proofs.Common.{◌≡◌, ◌↔◌, ℕ, ◌+◌, ◌≤◌, List, Result, Ok, Err, All, refl, sym, ◌∙◌, ap, subst, arith}
 use Rattle.ring_omega.specs.declared.quad.Quad.{Quad}
 use Rattle.gate_set.specs.Circuits.{Circuit, IsCircuit}
 use Rattle.gate_set.specs.Shape.{IsOn}
@@ -37,7 +37,7 @@ Steps rules u v = Told cause_of (Multiplies rules u.qubits (steps_of u.gates v.g
 one_multiplies : (rules : Settings) (u v : Circuit) → HasOneEnd IsSure (Steps rules u v)
 one_multiplies rules u v =
     let steps = steps_of u.gates v.gates in
-    one_told IsSure cause_of (Multiplies rules u.qubits steps) (chains.one_multiplies (λ stop. IsSure (cause_of stop)) (λ number order held sure. sure) rules u.qubits steps)
+    one_told IsSure cause_of (Multiplies rules u.qubits steps) (chains.one_multiplies (λ stop. IsSure (cause_of stop)) (λ k order held sure. let first : k + 1 ≡ 0 = sure in absurd (omega (arith, first))) rules u.qubits steps)
 
 one_says : (u v : Circuit) → HasOneEnd IsSure (Says u v)
 one_says u v a b p q s t =

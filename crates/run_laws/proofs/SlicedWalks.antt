@@ -25,7 +25,7 @@ use Rattle.run_laws.specs.Laws.{IsNoFault, IsSure}
 pub one_simulates : (rules : Settings) (input : List Bool) (gates : List Gate) → HasOneEnd IsSure (Simulates sliced_policy rules input gates)
 one_simulates rules input gates =
     one_told IsSure cause_of (Walks sliced_policy (begun input rules) gates)
-    (one_walks sliced_policy (λ stop. IsSure (cause_of stop)) one_next_order (λ s g number order held lacks sure. sure) (begun input rules) gates)
+    (one_walks sliced_policy (λ stop. IsSure (cause_of stop)) one_next_order (λ s g number order held is lacks sure. let first : number ≡ 0 = sure in absurd (omega (arith, is, first))) (begun input rules) gates)
 
 -- the stops of gates that are no faults
 abbrev IsToldStop : Stop → Type 0

@@ -24,9 +24,9 @@ abbrev pub IsNoFault : Cause → Type 0
 IsNoFault ReadFault = ⊥
 IsNoFault _ = Unit {0}
 
--- the stops that words and texts decide; a want of nodes, which may come or not, is none of them
+-- the stops that words and texts decide; a want of nodes at a gate or a step, which may come or not, is none of them. That of the identity at the start of a comparison has the number 0
 abbrev pub IsSure : Cause → Type 0
-IsSure (Nodes step order held) = ⊥
+IsSure (Nodes step order held) = step ≡ 0
 IsSure cause = IsNoFault cause
 
 -- no end of this is a want of nodes

@@ -26,7 +26,8 @@ ghost use Rattle.sliq_engine.specs.Demo.{demo_output, Demonstrates};
 use causes::Cause;
 use gate_set::Kind;
 
-/// Whatever is asked for, on whatever texts, comes to one output at most, or to one cause, but for a want of nodes.
+/// Whatever is asked for, on whatever texts, comes to one output at most, or to one cause, but for a want of nodes at a gate or a step. One at step 0, before the
+/// first step of `eq`, comes exactly where three nodes a qubit are more than are allowed.
 pub fn one_end()
     ensures { (asked : Request) (texts : List (List ℕ)) → HasOneEnd IsSure (CarriesOut asked.task asked.rules texts) }
 {}
@@ -37,7 +38,7 @@ pub fn some_end()
 {}
 
 /// Where a shelf in memory has the files of the words, a run on it comes to one output at most, or to one cause, but for faults of the shelf and a want of
-/// nodes.
+/// nodes at a gate or a step.
 pub fn one_run()
     ensures { (words : List (List ℕ)) (old new other : Shelved) → ((asked : Request) → asked_of words ≡ Some asked → AllByRecursion (λ name. IsSome (text_of old name)) asked.files)
         → Agree IsSure (Comes memory words old new) (Comes memory words old other) }

@@ -12,7 +12,7 @@ use Rattle.bit_lists.proofs.Variables.{natural_is_order}
 use Rattle.gate_set.specs.Shape.{IsOn}
 use Rattle.circuit_model.specs.Working.{FitsWidth}
 use Rattle.circuit_model.proofs.FitLemmas.{fits_or_not}
-use Rattle.circuit_model.proofs.PrefixLemmas.{AtEach-nil, AtEach-more, first_failing-apart}
+use Rattle.circuit_model.proofs.PrefixLemmas.{AtEach-nil, AtEach-more}
 use Rattle.comparison.specs.Products.{Step, gate_of, raw_matrix, work_matrix, RawStepFits, AllStepsFit, IsFirstUnfitStep}
 use Rattle.amp_dense.specs.Rules.{Settings}
 use Rattle.amp_dense.specs.declared.stop.Stop.{Stop}
@@ -58,15 +58,15 @@ multiplied rules n steps r h = by h.0 h.1 h.2
     by (Err stop) lacks w = absurd (let none : Ok r ≡ Err stop = w in cc)
 
 -- ---- at most one end
--- a want of nodes, which may come or not, is none of the sure stops
-module _ (S : Stop → Type 0) (unsure : (number : ℕ) (order : List ℕ) (held : ℕ) → S (Nodes number order held) → ⊥) where
+-- a want of nodes at a step, which may come or not, is none of the sure stops
+module _ (S : Stop → Type 0) (unsure : (k : ℕ) (order : List ℕ) (held : ℕ) → S (Nodes (k + 1) order held) → ⊥) where
   one_applies : (s : Standing) (t : Step) → HasOneEnd S (Applies s t)
   one_applies s t (Ok r) (Ok u) a b x y = ap Ok (a.same ∙ ap (λ o. with_step (in_order s o) t) (one_order s r.order u.order a.order b.order) ∙ sym b.same)
   one_applies s t (Ok r) (Err (Width m)) a b x y = absurd (b.1 a.fits)
   one_applies s t (Err (Width m)) (Ok r) a b x y = absurd (a.1 b.fits)
   one_applies s t (Err (Width m)) (Err (Width n)) a b x y = ap (λ k. Err (Width k)) (a.0 ∙ sym b.0)
-  one_applies s t (Err (Nodes m o h)) b a c x y = absurd (unsure m o h x)
-  one_applies s t a (Err (Nodes m o h)) c b x y = absurd (unsure m o h y)
+  one_applies s t (Err (Nodes m o h)) b a c x y = absurd (unsure (length s.steps) o h (subst (λ k. S (Nodes k o h)) a.0 x))
+  one_applies s t a (Err (Nodes m o h)) c b x y = absurd (unsure (length s.steps) o h (subst (λ k. S (Nodes k o h)) b.0 y))
   one_applies s t (Err OutOfMemory) b a c x y = absurd a
   one_applies s t a (Err OutOfMemory) c b x y = absurd b
 
@@ -256,17 +256,3 @@ module _ (rules : Settings) (n : ℕ) (steps : List Step) (on : All (λ t. IsOn 
       by : (at : Result (Unit {0}) Stop) → Starts rules n at → GoesOn (λ _. Through Applies (begun n rules) steps) at (Err stop) → IsWidth stop
       by (Ok x) room w = width_through (begun n rules) steps begins on stop w
       by (Err cause) lacks w = absurd (let room = identity_room rules.width n rules.nodes limit in let few : rules.nodes < 3 * n = lacks.0 in omega (arith, room, few))
-
-  -- so where all fit, none stops
-  pub never_stops : AllStepsFit rules.width n steps → (stop : Stop) → ¬ Multiplies rules n steps (Err stop)
-  never_stops fits (Width number) h = first_failing-apart (RawStepFits rules.width n) steps number (chain_unfit rules n steps number h) fits
-  never_stops fits (Nodes number order held) h = only_width (Nodes number order held) h
-  never_stops fits OutOfMemory h = only_width OutOfMemory h
-
-  -- and all come
-  pub all_come : 2 ≤ rules.width → AllStepsFit rules.width n steps → (r : Standing) × Multiplies rules n steps (Ok r)
-  all_come wide fits = by (some_multiplies (λ (stop : Stop). Unit {0}) (λ stop. tt) rules n steps wide on)
-    where
-      by : HasSomeEnd (λ (stop : Stop). Unit {0}) (Multiplies rules n steps) → (r : Standing) × Multiplies rules n steps (Ok r)
-      by (Ok r, h, sure) = (r, h)
-      by (Err stop, h, sure) = absurd (never_stops fits stop h)
