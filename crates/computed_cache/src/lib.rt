@@ -6,6 +6,3 @@ mod key;
 
 pub use cache::Cache;
 pub use key::Key;
-
-#[cfg(test)]
-mod tests;

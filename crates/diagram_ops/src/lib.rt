@@ -13,6 +13,3 @@ mod short;
 mod split;
 
 pub use diagrams::Diagrams;
-
-#[cfg(test)]
-mod tests;

@@ -11,6 +11,3 @@ mod swapping;
 
 pub use needs::{Room, SwapStop};
 pub use swapping::{room, swap, try_swap};
-
-#[cfg(test)]
-mod tests;

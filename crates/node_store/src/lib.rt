@@ -13,6 +13,3 @@ pub use marks::Reached;
 pub use node::{FALSE, Node, StoreStop, TRUE};
 pub use slots::Slots;
 pub use store::Store;
-
-#[cfg(test)]
-mod tests;

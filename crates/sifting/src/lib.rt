@@ -16,6 +16,3 @@ pub use laws::{
     variables_sift_to_one_order,
 };
 pub use sift::{Sifted, sift_variable};
-
-#[cfg(test)]
-mod tests;

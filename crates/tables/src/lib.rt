@@ -9,6 +9,3 @@ mod probe;
 
 pub use node_table::NodeTable;
 pub use probe::{Probe, places_for};
-
-#[cfg(test)]
-mod tests;
