@@ -1,7 +1,8 @@
 -- Gates place by place.
-use Rattle.std.proofs.Common.{◌≡◌, ◌∙◌, sym, ap, refl, ◌≤◌, ◌<◌, ℕ, zero, suc, ◌+◌, List, [], ◌∷◌, ◌++◌, length, map, replicate, get_or, take, All, arith}
+use Rattle.std.proofs.Common.{◌≡◌, ◌∙◌, sym, ap, refl, subst, ◌≤◌, ◌<◌, ℕ, zero, suc, ◌+◌, List, [], ◌∷◌, ◌++◌, length, map, replicate, get_or, take, drop, All, arith, length-append, length-drop}
 use Rattle.std.specs.List.{flat_map}
-use Rattle.std.proofs.lemmas.List.{append-nil, length-map, map-append, take_more, take_all}
+use Rattle.std.proofs.lemmas.List.{append-nil, length-map, map-append, take_more, take_all, get_or-drop, take-append-drop}
+use Rattle.std.proofs.Math.Seq.{drop-append_seam, take-append_seam}
 use Rattle.std.proofs.Math.ListN.{get_or-map}
 use Rattle.std.proofs.lemmas.List.Elements.{All-get_or}
 use Rattle.std.proofs.lemmas.Grind.{flat_map-append}
@@ -43,24 +44,53 @@ picked qs (suc n) h =
     let e : n + 1 ≡ suc n = omega arith in
     map-append (λ i. get_or qs i 0) (up_to n) (n ∷ []) ∙ ap (λ r. r ++ get_or qs n 0 ∷ []) (picked qs n (omega arith)) ∙ sym (take_more qs n 0 (omega arith)) ∙ ap (λ m. take m qs) e
 
-placed_one : (kind : Kind) (qs : List ℕ) → length qs ≡ arity_of kind → placed qs (one kind) ≡ record { kind = kind; on = qs }
-placed_one kind qs e = ap (λ on. record { kind = kind; on = on }) (picked qs (arity_of kind) (omega arith) ∙ take_all (arity_of kind) qs (omega arith))
+-- those after n pick the qubits after n
+picked_past : (qs : List ℕ) (n m : ℕ) → n + m ≤ length qs → map (λ i. get_or qs i 0) (map (λ i. n + i) (up_to m)) ≡ take m (drop n qs)
+picked_past qs n zero h = refl
+picked_past qs n (suc m) h =
+    let e : m + 1 ≡ suc m = omega arith in
+    let l : m < length (drop n qs) = omega (arith, length-drop n qs) in
+    ap (map (λ i. get_or qs i 0)) (map-append (λ i. n + i) (up_to m) (m ∷ []))
+    ∙ map-append (λ i. get_or qs i 0) (map (λ i. n + i) (up_to m)) ((n + m) ∷ [])
+    ∙ ap (λ r. r ++ get_or qs (n + m) 0 ∷ []) (picked_past qs n m (omega arith))
+    ∙ ap (λ x. take m (drop n qs) ++ x ∷ []) (sym (get_or-drop n qs m 0))
+    ∙ sym (take_more (drop n qs) m 0 l) ∙ ap (λ m. take m (drop n qs)) e
+
+-- a gate of a place: the first n of its qubits are further controls
+abbrev pub gate_on : ℕ → Kind → List ℕ → Gate
+gate_on n kind qs = record { kind = kind; on = drop n qs; extra = take n qs }
+
+placed_one : (n : ℕ) (kind : Kind) (qs : List ℕ) → length qs ≡ n + arity_of kind → placed qs (one n kind) ≡ gate_on n kind qs
+placed_one n kind qs e =
+    ap (λ on. record { kind = kind; on = on; extra = map (λ i. get_or qs i 0) (up_to n) })
+    (picked_past qs n (arity_of kind) (omega arith) ∙ take_all (arity_of kind) (drop n qs) (omega (arith, length-drop n qs)))
+    ∙ ap (λ extra. record { kind = kind; on = drop n qs; extra = extra }) (picked qs n (omega arith))
 
 map_replicate : {X Y : Type 0} (f : X → Y) (n : ℕ) (x : X) → map f (replicate n x) ≡ replicate n (f x)
 map_replicate f zero x = refl
 map_replicate f (suc n) x = ap (λ r. f x ∷ r) (map_replicate f n x)
 
 -- gates of one kind on all qubits of a place
-pub placed_all : (kind : Kind) (times : ℕ) (qs : List ℕ) → length qs ≡ arity_of kind → map (placed qs) (replicate times (one kind)) ≡ replicate times (record { kind = kind; on = qs })
-placed_all kind times qs e = map_replicate (placed qs) times (one kind) ∙ ap (replicate times) (placed_one kind qs e)
+pub placed_all : (n : ℕ) (kind : Kind) (times : ℕ) (qs : List ℕ) → length qs ≡ n + arity_of kind → map (placed qs) (replicate times (one n kind)) ≡ replicate times (gate_on n kind qs)
+placed_all n kind times qs e = map_replicate (placed qs) times (one n kind) ∙ ap (replicate times) (placed_one n kind qs e)
 
-pub placed_same : (kind : Kind) (times : ℕ) (qs : List ℕ) → IsPlaced kind qs → replicate times (record { kind = kind; on = qs }) ≡ map (placed qs) (replicate times (one kind))
-placed_same kind times qs p = sym (placed_all kind times qs p.count)
+pub placed_same : (kind : Kind) (times : ℕ) (extra on : List ℕ) → IsPlaced kind extra on
+    → replicate times (record { kind = kind; on = on; extra = extra }) ≡ map (placed (extra ++ on)) (replicate times (one (length extra) kind))
+placed_same kind times extra on p =
+    sym (placed_all (length extra) kind times (extra ++ on) (length-append extra on ∙ ap (λ k. length extra + k) p.count)
+    ∙ ap (λ q. replicate times (record { kind = kind; on = q; extra = take (length extra) (extra ++ on) })) (drop-append_seam extra on)
+    ∙ ap (λ q. replicate times (record { kind = kind; on = on; extra = q })) (take-append_seam extra on))
 
--- a gate has few arguments
-pub placed_few : (kind : Kind) (ts : List Place) (place : ℕ) → IsPlaced kind (qubits_at (seen_targets ts) place) → length ts ≤ 3
-placed_few kind ts place p =
-    let c = p.count in let l = length-map (seen_targets ts) (qubit_at place) in let m = length-map ts seen_target in let f = arity_of-few kind in omega arith
+-- a gate has few arguments, and each qubit of it is small
+pub placed_few : (n : ℕ) (kind : Kind) (ts : List Place) (place : ℕ) → IsPlaced kind (take n (qubits_at (seen_targets ts) place)) (drop n (qubits_at (seen_targets ts) place)) → length ts ≤ 11
+placed_few n kind ts place p =
+    let qs = qubits_at (seen_targets ts) place in
+    let c = p.count in let w = p.few in let l = length-map (seen_targets ts) (qubit_at place) in let m = length-map ts seen_target in let f = arity_of-few kind in
+    let j : length (take n qs) + length (drop n qs) ≡ length qs = sym (length-append (take n qs) (drop n qs)) ∙ ap length (take-append-drop n qs) in
+    omega arith
+
+pub placed_small : (n : ℕ) (kind : Kind) (qs : List ℕ) → IsPlaced kind (take n qs) (drop n qs) → All (λ q. q < 64) qs
+placed_small n kind qs p = subst (All (λ q. q < 64)) (take-append-drop n qs) p.small
 
 -- each qubit of a gate is small
 pub small_at : (ts : List Place) (place i : ℕ) (d : Place) → i < length ts → All (λ q. q < 64) (qubits_at (seen_targets ts) place) → qubit_at place (seen_target (get_or ts i d)) < 64

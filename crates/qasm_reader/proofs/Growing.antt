@@ -151,7 +151,7 @@ ends_push n [] r a h = (h, tt)
 ends_push n (x ∷ rs) r a h = (a.0, ends_push n rs r a.1 h)
 
 on_more : (n m : ℕ) → n ≤ m → (g : Gate) → IsOn n g → IsOn m g
-on_more n m h g p = record { placed = p.placed; below = All-weaker (λ q. q < n) (λ q. q < m) (λ q l. omega arith) g.on p.below }
+on_more n m h g p = record { placed = p.placed; below = All-weaker (λ q. q < n) (λ q. q < m) (λ q l. omega arith) (g.extra ++ g.on) p.below }
 
 abbrev draft : List (List ℕ × Register) → ℕ → List Gate → List Bool → Draft
 draft r q g m = record { registers = r; qubits = q; gates = g; measured = m }

@@ -32,8 +32,8 @@ with_first (Some t) (Some us) ts e = (t, us, refl, refl, same_Some (t ∷ us) ts
 with_first (Some t) None ts e = absurd cc
 with_first None xs ts e = absurd cc
 
--- one more of a count up to 4
-next_is : (n : ℕ) → n ≤ 4 → next_count n ≡ min (n + 1) 4
+-- one more of a count up to 12
+next_is : (n : ℕ) → n ≤ 12 → next_count n ≡ min (n + 1) 12
 next_is n h = grind (arith, nat_tests)
 
 noted_unknown : (f : Found) (u b : Bool) (x : Option Target) → (u ≡ false → is_some x ≡ true) → (noted f (found_as u b x)).unknown ≡ f.unknown || u
@@ -80,7 +80,7 @@ module _ (all : List (List ℕ × Register)) where
       ∙ ap (λ b. b || list_any (is_beyond all) more) (ap (λ u. (noted f (found_as u (is_beyond all a) (target all a))).beyond) p.0 ∙ noted_beyond f (is_beyond all a) (target all a) (has_target true a p.0))
       ∙ or_assoc f.beyond (is_beyond all a) (list_any (is_beyond all) more)
 
-  pub look_count : (f : Found) (arguments : List Argument) → f.count ≤ 4 → (look all f arguments).count ≡ min (f.count + length arguments) 4
+  pub look_count : (f : Found) (arguments : List Argument) → f.count ≤ 12 → (look all f arguments).count ≡ min (f.count + length arguments) 12
   look_count f [] h = omega arith
   look_count f (a ∷ more) h =
       let e = noted_count f (find all true a) in
@@ -97,14 +97,14 @@ module _ (all : List (List ℕ × Register)) where
       (t.0 ∷ ts.0, both_some (target all a) (targets all more) t.0 ts.0 t.1 ts.1)
 
   pub look_targets : (f : Found) (arguments : List Argument) → list_any (is_unknown all true) arguments ≡ false → list_any (is_beyond all) arguments ≡ false
-      → length f.targets + length arguments ≤ 3 → (ts : List Target) × (targets all arguments ≡ Some ts) × ((look all f arguments).targets ≡ f.targets ++ ts)
+      → length f.targets + length arguments ≤ 11 → (ts : List Target) × (targets all arguments ≡ Some ts) × ((look all f arguments).targets ≡ f.targets ++ ts)
   look_targets f [] u b h = ([], refl, sym (append-nil f.targets))
   look_targets f (a ∷ more) u b h =
       let p = or_parts (is_unknown all true a) (list_any (is_unknown all true) more) u in
       let q = or_parts (is_beyond all a) (list_any (is_beyond all) more) b in
       let t = target_known true a p.0 in
       let e : find all true a ≡ Ok t.0 = ap (λ x. found_as x (is_beyond all a) (target all a)) p.0 ∙ ap (λ x. found_as false x (target all a)) q.0 ∙ ap (found_as false false) t.1 in
-      let new : (noted f (Ok t.0)).targets ≡ f.targets ++ t.0 ∷ [] = ap (λ b. cond b (f.targets ++ t.0 ∷ []) f.targets) (lt-ltb (length f.targets) 3 (omega arith)) in
+      let new : (noted f (Ok t.0)).targets ≡ f.targets ++ t.0 ∷ [] = ap (λ b. cond b (f.targets ++ t.0 ∷ []) f.targets) (lt-ltb (length f.targets) 11 (omega arith)) in
       let long : length (noted f (Ok t.0)).targets ≡ length f.targets + 1 = ap length new ∙ length-append f.targets (t.0 ∷ []) in
       let r = look_targets (noted f (Ok t.0)) more p.1 q.1 (omega arith) in (
         t.0 ∷ r.0,
@@ -113,9 +113,9 @@ module _ (all : List (List ℕ × Register)) where
       )
 
   -- the arguments of a statement
-  pub all_targets : (arguments : List Argument) → list_any (is_unknown all true) arguments ≡ false → list_any (is_beyond all) arguments ≡ false → length arguments ≤ 3
+  pub all_targets : (arguments : List Argument) → list_any (is_unknown all true) arguments ≡ false → list_any (is_beyond all) arguments ≡ false → length arguments ≤ 11
       → targets all arguments ≡ Some (look all nothing_found arguments).targets
-  all_targets arguments u b h = let l : 0 + length arguments ≤ 3 = omega arith in let r = look_targets nothing_found arguments u b l in r.1 ∙ ap Some (sym r.2)
+  all_targets arguments u b h = let l : 0 + length arguments ≤ 11 = omega arith in let r = look_targets nothing_found arguments u b l in r.1 ∙ ap Some (sym r.2)
 
 -- as many targets as arguments
 pub length_targets : (all : List (List ℕ × Register)) (arguments : List Argument) (ts : List Target) → targets all arguments ≡ Some ts → length ts ≡ length arguments

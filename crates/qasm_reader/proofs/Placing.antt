@@ -1,25 +1,26 @@
 -- Arguments that pass all tests are different qubits of the draft.
-use Rattle.std.proofs.Common.{◌≡◌, ◌∙◌, sym, ap, refl, subst, ◌≤◌, ◌<◌, ℕ, ◌+◌, ◌-◌, Bool, true, false, not, cond, nat_eq, nat_le, List, [], ◌∷◌, length, map, replicate, All, get_or, Option, Some, None, option_map, arith}
-use Rattle.std.specs.List.{list_any, AllByRecursion, cons_option}
+use Rattle.std.proofs.Common.{◌≡◌, ◌≢◌, ◌∙◌, sym, ap, refl, subst, ◌≤◌, ◌<◌, ℕ, zero, suc, ◌+◌, ◌-◌, Bool, true, false, not, cond, nat_eq, nat_le, List, [], ◌∷◌, length, map, replicate, All, get_or, Option, Some, None, option_map, arith, length-drop}
+use Rattle.std.specs.List.{list_any, AllByRecursion, AllPairs, cons_option}
+use Rattle.std.specs.Option.{option_map_or}
 use Rattle.std.specs.Str.{bytes_eq}
 use Rattle.std.specs.Map.{lookup}
 use Rattle.std.proofs.lemmas.Bool.{leb-false, not-false, or_parts, false_from_ne_true}
 use Rattle.std.proofs.lemmas.Option.{none-some, same_Some}
-use Rattle.std.proofs.lemmas.List.{length-map}
+use Rattle.std.proofs.lemmas.List.{length-map, length-take, take-append-drop}
 use Rattle.std.proofs.lemmas.List.Elements.{All-nil, All-cons, All-replicate}
 use Rattle.gate_set.specs.declared.kind.Kind.{Kind}
-use Rattle.gate_set.specs.declared.kind.Kind.TheVariants.{Id}
-use Rattle.gate_set.specs.Matrix.{arity_of}
+use Rattle.gate_set.specs.declared.kind.Kind.TheVariants.{Id, Phase}
+use Rattle.gate_set.specs.Matrix.{arity_of, IsKind}
 use Rattle.gate_set.specs.Shape.{IsOn}
 use Rattle.qasm_lex.specs.Fractions.{Ratio}
 use Rattle.qasm_forms.specs.Statements.{Argument}
 use Rattle.qasm_reader.specs.Acts.{Register, Target, Item, register, index_of, place_in, target, targets, wholes, place_count, qubit_at, qubits_at, up_to, placed}
-use Rattle.qasm_reader.specs.Calls.{Named, gate, turn, table, builtin, arity, one, turns, Gives, plain, turned}
+use Rattle.qasm_reader.specs.Calls.{Base, Named, gate, turn, phase, own, bases, plainly, with_control, based, builtin, base_arity, arity, one, turns, Gives, plain, turned, phased}
 use Rattle.qasm_reader.specs.Reasons.{same_sort, is_unknown, reaches, is_beyond}
 use Rattle.qasm_reader.specs.Private.Scope.{differ, has_twice, repeats}
 use Rattle.qasm_reader.specs.Private.Drafts.{Draft, IsDraft, EndsWithin}
 use Rattle.qasm_reader.proofs.Places.{any_there}
-use Rattle.qasm_reader.proofs.Applied.{placed_all}
+use Rattle.qasm_reader.proofs.Applied.{gate_on, placed_all}
 use Rattle.qasm_reader.proofs.Deciding.{different, same_places}
 use Rattle.qasm_reader.proofs.Looking.{with_first, length_targets}
 
@@ -89,57 +90,120 @@ none_there f place n h e = false_from_ne_true (f place) (λ q. let t : true ≡ 
 small : (n : ℕ) (qs : List ℕ) → n ≤ 64 → All (λ q. q < n) qs → All (λ q. q < 64) qs
 small n qs h a k d lt = let b = a k d lt in omega arith
 
--- the two kinds of a turn are on one qubit
-TurnsOne : Named → Type 0
-TurnsOne (gate kind) = Unit {0}
-TurnsOne (turn forth back) = (arity_of forth ≡ 1) × (arity_of back ≡ 1)
+-- a base's kinds are kinds, and those of a turn are on one qubit
+IsSound : Base → Type 0
+IsSound (gate kind) = IsKind kind
+IsSound (turn forth back) = (arity_of forth ≡ 1) × (arity_of back ≡ 1) × IsKind forth × IsKind back
+IsSound phase = Unit {0}
 
-table_turns : AllByRecursion (λ e. TurnsOne e.1) table
-unfolding TurnsOne
-table_turns = (tt, (tt, (tt, (tt, (tt, (tt, (tt, (tt, (tt, ((refl, refl), ((refl, refl), (tt, (tt, (tt, (tt, (tt, tt))))))))))))))))
+own_sound : AllByRecursion (λ e. IsSound e.1) own
+unfolding IsSound
+own_sound = (tt, (tt, (tt, (tt, (tt, tt)))))
 
-named_turns : (name : List ℕ) (called : Named) → builtin name ≡ Some called → TurnsOne called
+bases_sound : AllByRecursion (λ e. IsSound e.1) bases
+unfolding IsSound
+bases_sound = (tt, (tt, (tt, (tt, (tt, (tt, (tt, (tt, ((refl, refl, tt, tt), ((refl, refl, tt, tt), (tt, (tt, tt))))))))))))
+
+-- the gate of a name has a sound base and at most so many further controls
+record IsFit (n : ℕ) (called : Named) : Type 0 where
+  few : called.controls ≤ n
+  base : IsSound called.base
+
+plain_fit : (n : ℕ) (called : Named) (x : Option Base) → ((b : Base) → x ≡ Some b → IsSound b) → option_map plainly x ≡ Some called → IsFit n called
+plain_fit n called None h e = absurd cc
+plain_fit n called (Some b) h e = subst (IsFit n) (same_Some (plainly b) called e) (record { few = omega arith; base = h b refl })
+
+control_fit : (n : ℕ) (called : Named) (x : Option Named) → ((c : Named) → x ≡ Some c → IsFit n c) → option_map with_control x ≡ Some called → IsFit (suc n) called
+control_fit n called None h e = absurd cc
+control_fit n called (Some c) h e =
+    let f = h c refl in let few = f.few in subst (IsFit (suc n)) (same_Some (with_control c) called e) (record { few = omega arith; base = f.base })
+
+base_fit : (n : ℕ) (name : List ℕ) (called : Named) → option_map plainly (lookup (bytes_eq name) bases) ≡ Some called → IsFit n called
+base_fit n name called e = plain_fit n called (lookup (bytes_eq name) bases) (λ b. found_holds IsSound (bytes_eq name) bases b bases_sound) e
+
+based_fit : (n : ℕ) (name : List ℕ) (called : Named) → based n name ≡ Some called → IsFit n called
+unfolding based
+based_fit zero name called e = base_fit 0 name called e
+based_fit (suc n) [] called e = absurd cc
+based_fit (suc n) (b ∷ name) called e = by (nat_eq b 99) e (λ c. based_fit n name c)
+  where
+    by : (t : Bool) → cond t (option_map with_control (based n name)) (option_map plainly (lookup (bytes_eq (b ∷ name)) bases)) ≡ Some called → ((c : Named) → based n name ≡ Some c → IsFit n c) → IsFit (suc n) called
+    by true e more = control_fit n called (based n name) more e
+    by false e more = base_fit (suc n) (b ∷ name) called e
+
+named_fit : (name : List ℕ) (called : Named) → builtin name ≡ Some called → IsFit 8 called
 unfolding builtin
-named_turns name called e = found_holds TurnsOne (bytes_eq name) table called table_turns e
+named_fit name called e = by (lookup (bytes_eq name) own) (λ b. found_holds IsSound (bytes_eq name) own b own_sound) e
+  where
+    by : (x : Option Base) → ((b : Base) → x ≡ Some b → IsSound b) → option_map_or (λ b. Some (plainly b)) x (based 8 name) ≡ Some called → IsFit 8 called
+    by None h e = based_fit 8 name called e
+    by (Some b) h e = plain_fit 8 called (Some b) h e
 
-pub turn_arities : (name : List ℕ) (forth back : Kind) → builtin name ≡ Some (turn forth back) → (arity_of forth ≡ 1) × (arity_of back ≡ 1)
-unfolding TurnsOne
-turn_arities name forth back e = named_turns name (turn forth back) e
+pub named_few : (name : List ℕ) (called : Named) → builtin name ≡ Some called → called.controls ≤ 8
+named_few name called e = (named_fit name called e).few
 
--- what a call does at each place is gates of one kind, on as many qubits as the call has arguments
+pub named_kind : (name : List ℕ) (called : Named) (kind : Kind) → builtin name ≡ Some called → called.base ≡ gate kind → IsKind kind
+unfolding IsSound
+named_kind name called kind e b = subst IsSound b (named_fit name called e).base
+
+pub named_turn : (name : List ℕ) (called : Named) (forth back : Kind) → builtin name ≡ Some called → called.base ≡ turn forth back → (arity_of forth ≡ 1) × (arity_of back ≡ 1) × IsKind forth × IsKind back
+unfolding IsSound
+named_turn name called forth back e b = subst IsSound b (named_fit name called e).base
+
+-- what a call does at each place is gates of one kind, with the further controls of its name, on as many qubits as its base has
 record Body (called : Named) (items : List Item) : Type 0 where
   kind : Kind
   times : ℕ
-  are : items ≡ replicate times (one kind)
-  on : arity_of kind ≡ arity called
+  are : items ≡ replicate times (one called.controls kind)
+  on : arity_of kind ≡ base_arity called.base
+  power : IsKind kind
 
-turns_body : (forth back : Kind) (m : ℕ) → arity_of forth ≡ 1 → arity_of back ≡ 1 → Body (turn forth back) (turns forth back m)
-turns_body forth back m f b = by (nat_eq m 0) refl (nat_le m 4) refl
-  where
-    by : (x : Bool) → nat_eq m 0 ≡ x → (y : Bool) → nat_le m 4 ≡ y → Body (turn forth back) (turns forth back m)
-    by true e y g = record { kind = Id; times = 1; are = ap (λ z. cond z (one Id ∷ []) (cond (nat_le m 4) (replicate m (one forth)) (replicate (8 - m) (one back)))) e; on = refl }
-    by false e true g = record { kind = forth; times = m; are = ap (λ z. cond z (one Id ∷ []) (cond (nat_le m 4) (replicate m (one forth)) (replicate (8 - m) (one back)))) e ∙ ap (λ z. cond z (replicate m (one forth)) (replicate (8 - m) (one back))) g; on = f }
-    by false e false g = record { kind = back; times = 8 - m; are = ap (λ z. cond z (one Id ∷ []) (cond (nat_le m 4) (replicate m (one forth)) (replicate (8 - m) (one back)))) e ∙ ap (λ z. cond z (replicate m (one forth)) (replicate (8 - m) (one back))) g; on = b }
+module _ (called : Named) (sound : IsSound called.base) where
+  turns_body : (forth back : Kind) (m : ℕ) → called.base ≡ turn forth back → Body called (turns called.controls forth back m)
+  unfolding IsSound
+  turns_body forth back m e = by (nat_eq m 0) refl (nat_le m 4) refl
+    where
+      n : ℕ
+      n = called.controls
 
-gives_body : (called : Named) (values : List Ratio) (items : List Item) → TurnsOne called → Gives called values items → Body called items
-unfolding TurnsOne
-gives_body called values items o (plain kind n v i) = subst (λ c. Body c items) (sym n) (record { kind = kind; times = 1; are = i; on = refl })
-gives_body called values items o (turned forth back f m n v q i) =
-    let p = subst TurnsOne n o in subst (λ c. Body c items) (sym n) (subst (Body (turn forth back)) (sym i) (turns_body forth back m p.0 p.1))
+      both : (arity_of forth ≡ 1) × (arity_of back ≡ 1) × IsKind forth × IsKind back
+      both = subst IsSound e sound
+
+      one_qubit : base_arity called.base ≡ 1
+      one_qubit = ap base_arity e
+
+      many : nat_eq m 0 ≡ false → turns n forth back m ≡ cond (nat_le m 4) (replicate m (one n forth)) (replicate (8 - m) (one n back))
+      many x = ap (λ z. cond z (one n Id ∷ []) (cond (nat_le m 4) (replicate m (one n forth)) (replicate (8 - m) (one n back)))) x
+
+      by : (x : Bool) → nat_eq m 0 ≡ x → (y : Bool) → nat_le m 4 ≡ y → Body called (turns n forth back m)
+      by true x y g = record { kind = Id; times = 1; are = ap (λ z. cond z (one n Id ∷ []) (cond (nat_le m 4) (replicate m (one n forth)) (replicate (8 - m) (one n back)))) x; on = sym one_qubit; power = tt }
+      by false x true g = record { kind = forth; times = m; are = many x ∙ ap (λ z. cond z (replicate m (one n forth)) (replicate (8 - m) (one n back))) g; on = both.0 ∙ sym one_qubit; power = both.2 }
+      by false x false g = record { kind = back; times = 8 - m; are = many x ∙ ap (λ z. cond z (replicate m (one n forth)) (replicate (8 - m) (one n back))) g; on = both.1 ∙ sym one_qubit; power = both.3 }
+
+  gives_body : (values : List Ratio) (items : List Item) → Gives called values items → Body called items
+  unfolding IsSound
+  gives_body values items (plain kind n v i) = record { kind = kind; times = 1; are = i; on = sym (ap base_arity n); power = subst IsSound n sound }
+  gives_body values items (turned forth back f m n v q i) = subst (Body called) (sym i) (turns_body forth back m n)
+  gives_body values items (phased f m n v q i) = let b = q.below in record { kind = Phase m; times = 1; are = i; on = sym (ap base_arity n); power = omega arith }
 
 -- the qubits of a gate whose arguments pass
-pub placed_on : (n : ℕ) (all : List (List ℕ × Register)) → n ≤ 64 → AllByRecursion (EndsWithin n) all → (arguments : List Argument) (ts : List Target) (kind : Kind) (place : ℕ)
-    → list_any (is_unknown all true) arguments ≡ false → list_any (is_beyond all) arguments ≡ false → targets all arguments ≡ Some ts → length arguments ≡ arity_of kind
-    → differ (wholes ts) ≡ false → repeats ts ≡ false → place < place_count ts → IsOn n (record { kind = kind; on = qubits_at ts place })
-placed_on n all few ends arguments ts kind place u b e c d r h =
-    let below = all_below n all ends (place_count ts) place h arguments ts u b e (same_places (wholes ts) d) in
+pub placed_on : (n : ℕ) (all : List (List ℕ × Register)) → n ≤ 64 → AllByRecursion (EndsWithin n) all → (arguments : List Argument) (ts : List Target) (controls : ℕ) (kind : Kind) (place : ℕ)
+    → list_any (is_unknown all true) arguments ≡ false → list_any (is_beyond all) arguments ≡ false → targets all arguments ≡ Some ts → controls ≤ 8 → IsKind kind → length arguments ≡ controls + arity_of kind
+    → differ (wholes ts) ≡ false → repeats ts ≡ false → place < place_count ts → IsOn n (gate_on controls kind (qubits_at ts place))
+placed_on n all few ends arguments ts controls kind place u b e most power c d r h =
+    let qs = qubits_at ts place in
+    let below : All (λ q. q < n) qs = all_below n all ends (place_count ts) place h arguments ts u b e (same_places (wholes ts) d) in
+    let whole = sym (take-append-drop controls qs) in
+    let long : length qs ≡ controls + arity_of kind = length-map ts (qubit_at place) ∙ length_targets all arguments ts e ∙ c in
     record {
       placed = record {
-        count = length-map ts (qubit_at place) ∙ length_targets all arguments ts e ∙ c;
-        small = small n (qubits_at ts place) few below;
-        different = different (qubits_at ts place) (none_there (λ place. has_twice (qubits_at ts place)) place (place_count ts) h r);
+        power = power;
+        count = omega (arith, length-drop controls qs);
+        few = omega (arith, length-take controls qs);
+        small = subst (All (λ q. q < 64)) whole (small n qs few below);
+        different = subst (AllPairs (λ p q. p ≢ q)) whole (different qs (none_there (λ place. has_twice (qubits_at ts place)) place (place_count ts) h r));
       };
-      below = below;
+      below = subst (All (λ q. q < n)) whole below;
     }
 
 -- the gates of a call that passes all tests are on qubits of the draft
@@ -148,7 +212,9 @@ pub call_on_qubits : (d : Draft) → IsDraft d → (name : List ℕ) (called : N
     → length arguments ≡ arity called → Gives called values items → differ (wholes ts) ≡ false → repeats ts ≡ false
     → (place : ℕ) → place < place_count ts → All (IsOn d.qubits) (map (placed (qubits_at ts place)) items)
 call_on_qubits d i name called arguments ts values items n u b e c g s r place h =
-    let body = gives_body called values items (named_turns name called n) g in
-    let k = c ∙ sym body.on in
-    subst (All (IsOn d.qubits)) (sym (ap (map (placed (qubits_at ts place))) body.are ∙ placed_all body.kind body.times (qubits_at ts place) (length-map ts (qubit_at place) ∙ length_targets d.registers arguments ts e ∙ k)))
-    (All-replicate (IsOn d.qubits) body.times _ (placed_on d.qubits d.registers i.few_qubits i.registers_end arguments ts body.kind place u b e k s r h))
+    let fit = named_fit name called n in
+    let body = gives_body called fit.base values items g in
+    let k : length arguments ≡ called.controls + arity_of body.kind = c ∙ ap (λ x. called.controls + x) (sym body.on) in
+    subst (All (IsOn d.qubits))
+    (sym (ap (map (placed (qubits_at ts place))) body.are ∙ placed_all called.controls body.kind body.times (qubits_at ts place) (length-map ts (qubit_at place) ∙ length_targets d.registers arguments ts e ∙ k)))
+    (All-replicate (IsOn d.qubits) body.times _ (placed_on d.qubits d.registers i.few_qubits i.registers_end arguments ts called.controls body.kind place u b e fit.few body.power k s r h))

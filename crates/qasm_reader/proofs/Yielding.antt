@@ -1,19 +1,21 @@
 -- What the angles of a call come to: one thing, always.
-use Rattle.std.proofs.Common.{◌≡◌, ◌∙◌, sym, ap, refl, subst, ◌⊎◌, inl, inr, ℕ, suc, List, [], ◌∷◌, ◌++◌, length, arith, Option, Some, None, Result, Ok, Err, pos, ◌≤ℤ◌}
+use Rattle.std.proofs.Common.{◌≡◌, ◌∙◌, sym, ap, refl, subst, ◌⊎◌, inl, inr, ℕ, suc, List, [], ◌∷◌, ◌++◌, length, arith, Option, Some, None, Result, Ok, Err, pos, ◌≤ℤ◌, ◌*ℤ◌}
+use Rattle.std.proofs.lemmas.Int.{ints}
 use Rattle.std.proofs.lemmas.Option.{none-some, same_Some}
 use Rattle.gate_set.specs.declared.kind.Kind.{Kind}
+use Rattle.gate_set.specs.declared.kind.Kind.TheVariants.{Phase}
 use Rattle.qasm_lex.specs.declared.refusal.AngleRefusal.{AngleRefusal}
 use Rattle.qasm_lex.specs.Lexemes.{Lexeme}
 use Rattle.qasm_lex.specs.Symbols.{symbols}
 use Rattle.qasm_lex.specs.Fractions.{Ratio}
 use Rattle.qasm_lex.specs.Angles.{IsAnswer}
-use Rattle.qasm_lex.specs.Quarters.{IsQuarters}
+use Rattle.qasm_lex.specs.Quarters.{IsQuarters, IsEighths}
 use Rattle.qasm_lex.proofs.OneAnswer.{one_answer}
-use Rattle.qasm_lex.proofs.OneQuarters.{one_quarters}
+use Rattle.qasm_lex.proofs.OneQuarters.{one_quarters, one_eighths}
 use Rattle.qasm_lex.proofs.Denominators.{answer_positive}
 use Rattle.qasm_lex.proofs.EveryAnswer.{every_answer, quarters_or_none}
 use Rattle.qasm_reader.specs.Acts.{Item}
-use Rattle.qasm_reader.specs.Calls.{Named, gate, turn, angle_count, one, turns, Gives, plain, turned, AreValues}
+use Rattle.qasm_reader.specs.Calls.{Base, Named, gate, turn, phase, base_angles, angle_count, one, turns, Gives, plain, turned, phased, AreValues}
 use Rattle.qasm_reader.specs.Reasons.{FirstRefused}
 use Rattle.qasm_reader.specs.declared.reason.Why.TheVariants.{AngleRefused, OffGrid}
 use Rattle.qasm_reader.specs.Private.Scope.{Taken, Yields}
@@ -107,52 +109,83 @@ back_same : (f b g d : Kind) → turn f b ≡ turn g d → b ≡ d
 back_same f b g d e = cc
 
 gives_one : (called : Named) (angles : List (List Lexeme)) (values : List Ratio) (a b : List Item) → AreValues angles values → Gives called values a → Gives called values b → a ≡ b
-gives_one called angles values a b h (plain k n v i) (plain l m w j) = i ∙ ap (λ x. one x ∷ []) (gate_same k l (sym n ∙ m)) ∙ sym j
+gives_one called angles values a b h (plain k n v i) (plain l m w j) = i ∙ ap (λ x. one called.controls x ∷ []) (gate_same k l (sym n ∙ m)) ∙ sym j
 gives_one called angles values a b h (plain k n v i) (turned fo ba g m o w q j) = absurd (let e : gate k ≡ turn fo ba = sym n ∙ o in cc)
+gives_one called angles values a b h (plain k n v i) (phased g m o w q j) = absurd (let e : gate k ≡ phase = sym n ∙ o in cc)
 gives_one called angles values a b h (turned fo ba f m n v q i) (plain k o w j) = absurd (let e : gate k ≡ turn fo ba = sym o ∙ n in cc)
+gives_one called angles values a b h (turned fo ba f m n v q i) (phased g k o w r j) = absurd (let e : turn fo ba ≡ phase = sym n ∙ o in cc)
 gives_one called angles values a b h (turned fo ba f m n v q i) (turned fi bi g k o w r j) =
     let same = sym n ∙ o in
     let ratio : f ≡ g = same_first (sym v ∙ w) in
     let count : m ≡ k = one_quarters f m k (value_positive angles f (subst (AreValues angles) v h)) q (subst (λ x. IsQuarters x k) (sym ratio) r) in
-    i ∙ ap (λ x. turns x ba m) (forth_same fo ba fi bi same) ∙ ap (λ x. turns fi x m) (back_same fo ba fi bi same) ∙ ap (turns fi bi) count ∙ sym j
+    i ∙ ap (λ x. turns called.controls x ba m) (forth_same fo ba fi bi same) ∙ ap (λ x. turns called.controls fi x m) (back_same fo ba fi bi same) ∙ ap (turns called.controls fi bi) count ∙ sym j
+gives_one called angles values a b h (phased f m n v q i) (plain k o w j) = absurd (let e : gate k ≡ phase = sym o ∙ n in cc)
+gives_one called angles values a b h (phased f m n v q i) (turned fo ba g k o w r j) = absurd (let e : turn fo ba ≡ phase = sym o ∙ n in cc)
+gives_one called angles values a b h (phased f m n v q i) (phased g k o w r j) =
+    let ratio : f ≡ g = same_first (sym v ∙ w) in
+    let count : m ≡ k = one_eighths f m k (value_positive angles f (subst (AreValues angles) v h)) q (subst (λ x. IsEighths x k) (sym ratio) r) in
+    i ∙ ap (λ x. one called.controls (Phase x) ∷ []) count ∙ sym j
+
+-- a fraction is a number of eighths where twice the fraction is one of quarters
+eighths_or_none : (f : Ratio) → pos 1 ≤ℤ f.den → ((m : ℕ) × IsEighths f m) ⊎ ((m : ℕ) → IsEighths f m → ⊥)
+eighths_or_none f p = elim (quarters_or_none (record { num = f.num *ℤ pos 2; den = f.den }) p) [
+  | inl q ↦ inl (q.0, record { below = (q.1).below; times = (q.1).times; same = sym four ∙ (q.1).same })
+  | inr n ↦ inr (λ m i. n m (record { below = i.below; times = i.times; same = four ∙ i.same }))
+]
+  where
+    four : (f.num *ℤ pos 2) *ℤ pos 2 ≡ f.num *ℤ pos 4
+    four = omega (arith, ints)
 
 -- or gives nothing
 Given : Named → List Ratio → Type 0
 Given called values = ((items : List Item) × Gives called values items) ⊎ ((items : List Item) → Gives called values items → ⊥)
 
-plain_given : (k : Kind) (values : List Ratio) → Given (gate k) values
-unfolding Given
-plain_given k [] = inl (one k ∷ [], plain k refl refl refl)
-plain_given k (f ∷ values) = inr none
-  where
-    none : (items : List Item) → Gives (gate k) (f ∷ values) items → ⊥
-    none items (plain l n v i) = cc
-    none items (turned fo ba g m n v q i) = cc
+module _ (called : Named) where
+  pub turn_off : (fo ba : Kind) (f : Ratio) → called.base ≡ turn fo ba → ((m : ℕ) → IsQuarters f m → ⊥) → (items : List Item) → Gives called (f ∷ []) items → ⊥
+  turn_off fo ba f e off items (plain l n v i) = cc
+  turn_off fo ba f e off items (turned fi bi g m n v q i) = off m (subst (λ x. IsQuarters x m) (sym (same_first v)) q)
+  turn_off fo ba f e off items (phased g m n v q i) = let x : turn fo ba ≡ phase = sym e ∙ n in cc
 
-turned_given : (fo ba : Kind) (angles : List (List Lexeme)) (values : List Ratio) → AreValues angles values → Given (turn fo ba) values
-unfolding Given
-turned_given fo ba angles [] h = inr none
-  where
-    none : (items : List Item) → Gives (turn fo ba) [] items → ⊥
-    none items (plain l n v i) = cc
-    none items (turned fi bi g m n v q i) = cc
-turned_given fo ba angles (f ∷ []) h = elim (quarters_or_none f (value_positive angles f h)) [
-  | inl q ↦ inl (turns fo ba q.0, turned fo ba f q.0 refl refl q.1 refl)
-  | inr off ↦ inr (none off)
-]
-  where
-    none : ((m : ℕ) → IsQuarters f m → ⊥) → (items : List Item) → Gives (turn fo ba) (f ∷ []) items → ⊥
-    none off items (plain l n v i) = cc
-    none off items (turned fi bi g m n v q i) = off m (subst (λ x. IsQuarters x m) (sym (same_first v)) q)
-turned_given fo ba angles (f ∷ g ∷ values) h = inr none
-  where
-    none : (items : List Item) → Gives (turn fo ba) (f ∷ g ∷ values) items → ⊥
-    none items (plain l n v i) = cc
-    none items (turned fi bi x m n v q i) = cc
+  pub phase_off : (f : Ratio) → called.base ≡ phase → ((m : ℕ) → IsEighths f m → ⊥) → (items : List Item) → Gives called (f ∷ []) items → ⊥
+  phase_off f e off items (plain l n v i) = cc
+  phase_off f e off items (turned fi bi g m n v q i) = let x : turn fi bi ≡ phase = sym n ∙ e in cc
+  phase_off f e off items (phased g m n v q i) = off m (subst (λ x. IsEighths x m) (sym (same_first v)) q)
 
-given : (called : Named) (angles : List (List Lexeme)) (values : List Ratio) → AreValues angles values → Given called values
-given (gate k) angles values h = plain_given k values
-given (turn fo ba) angles values h = turned_given fo ba angles values h
+  -- angles where there are none, or too many, or too few
+  gate_none : (k : Kind) (f : Ratio) (values : List Ratio) → called.base ≡ gate k → (items : List Item) → Gives called (f ∷ values) items → ⊥
+  gate_none k f values e items (plain l n v i) = cc
+  gate_none k f values e items (turned fo ba g m n v q i) = let x : gate k ≡ turn fo ba = sym e ∙ n in cc
+  gate_none k f values e items (phased g m n v q i) = let x : gate k ≡ phase = sym e ∙ n in cc
+
+  none_given : (items : List Item) (k : Base) → called.base ≡ k → base_angles k ≡ 1 → Gives called [] items → ⊥
+  none_given items k e a (plain l n v i) = let x : ◌≡◌ {A = ℕ} 0 1 = sym (ap base_angles n) ∙ ap base_angles e ∙ a in omega arith
+  none_given items k e a (turned fo ba g m n v q i) = cc
+  none_given items k e a (phased g m n v q i) = cc
+
+  two_given : (f g : Ratio) (values : List Ratio) (items : List Item) → Gives called (f ∷ g ∷ values) items → ⊥
+  two_given f g values items (plain l n v i) = cc
+  two_given f g values items (turned fo ba x m n v q i) = cc
+  two_given f g values items (phased x m n v q i) = cc
+
+  given : (angles : List (List Lexeme)) (values : List Ratio) → AreValues angles values → Given called values
+  unfolding Given
+  given angles values h = by called.base refl values h
+    where
+      by : (b : Base) → called.base ≡ b → (values : List Ratio) → AreValues angles values → Given called values
+      by (gate k) e [] h = inl (one called.controls k ∷ [], plain k e refl refl)
+      by (gate k) e (f ∷ values) h = inr (gate_none k f values e)
+      by (turn fo ba) e [] h = inr (λ items. none_given items (turn fo ba) e refl)
+      by (turn fo ba) e (f ∷ []) h = elim (quarters_or_none f (value_positive angles f h)) [
+        | inl q ↦ inl (turns called.controls fo ba q.0, turned fo ba f q.0 e refl q.1 refl)
+        | inr off ↦ inr (turn_off fo ba f e off)
+      ]
+      by phase e [] h = inr (λ items. none_given items phase e refl)
+      by phase e (f ∷ []) h = elim (eighths_or_none f (value_positive angles f h)) [
+        | inl q ↦ inl (one called.controls (Phase q.0) ∷ [], phased f q.0 e refl q.1 refl)
+        | inr off ↦ inr (phase_off f e off)
+      ]
+      by (turn fo ba) e (f ∷ g ∷ values) h = inr (two_given f g values)
+      by phase e (f ∷ g ∷ values) h = inr (two_given f g values)
 
 yield_of : (named : Option Named) (angles : List (List Lexeme)) (values : List Ratio) → AreValues angles values → (t : Taken) × Yields named angles t
 unfolding Given
@@ -196,32 +229,23 @@ quiet (Err e) y = absurd (none y.good y.angle y.more y.split)
     none [] angle more e = cc
     none (g ∷ good) angle more e = cc
 
--- what the one angle of a turn comes to
-pub refused_yield : (forth back : Kind) (angle : List Lexeme) (r : Result Ratio AngleRefusal) (e : AngleRefusal) (t : Taken) → r ≡ Err e → IsAnswer (symbols angle) r → Yields (Some (turn forth back)) (angle ∷ []) t
-    → Err (AngleRefused e) ≡ bodied t
-refused_yield forth back angle r e t q a y =
-    let u : FirstRefused (angle ∷ []) e = record { good = []; angle = angle; more = []; values = []; split = refl; valued = tt; refused = subst (IsAnswer (symbols angle)) q a } in
-    sym (ap bodied (yields_one (Some (turn forth back)) (angle ∷ []) t (Err e) y u))
+-- what the one angle of a call comes to
+module _ (called : Named) (angle : List Lexeme) (r : Result Ratio AngleRefusal) (answer : IsAnswer (symbols angle) r) (t : Taken) (y : Yields (Some called) (angle ∷ []) t) where
+  pub refused_yield : (e : AngleRefusal) → r ≡ Err e → Err (AngleRefused e) ≡ bodied t
+  refused_yield e q =
+      let u : FirstRefused (angle ∷ []) e = record { good = []; angle = angle; more = []; values = []; split = refl; valued = tt; refused = subst (IsAnswer (symbols angle)) q answer } in
+      sym (ap bodied (yields_one (Some called) (angle ∷ []) t (Err e) y u))
 
-pub turned_yield : (forth back : Kind) (angle : List Lexeme) (r : Result Ratio AngleRefusal) (f : Ratio) (m : ℕ) (t : Taken) → r ≡ Ok f → IsAnswer (symbols angle) r → IsQuarters f m → Yields (Some (turn forth back)) (angle ∷ []) t
-    → Ok (turns forth back m) ≡ bodied t
-turned_yield forth back angle r f m t q a i y =
-    sym (ap bodied (yields_one (Some (turn forth back)) (angle ∷ []) t (Ok (Some (turns forth back m))) y
-    (turn forth back, f ∷ [], refl, (subst (IsAnswer (symbols angle)) q a, tt), turned forth back f m refl refl i refl)))
+  pub given_yield : (f : Ratio) (items : List Item) → r ≡ Ok f → Gives called (f ∷ []) items → Ok items ≡ bodied t
+  given_yield f items q g =
+      sym (ap bodied (yields_one (Some called) (angle ∷ []) t (Ok (Some items)) y (called, f ∷ [], refl, (subst (IsAnswer (symbols angle)) q answer, tt), g)))
 
-pub off_yield : (forth back : Kind) (angle : List Lexeme) (r : Result Ratio AngleRefusal) (f : Ratio) (t : Taken) → r ≡ Ok f → IsAnswer (symbols angle) r → ((m : ℕ) → IsQuarters f m → ⊥) → Yields (Some (turn forth back)) (angle ∷ []) t
-    → Err OffGrid ≡ bodied t
-off_yield forth back angle r f t q a n y = sym (ap bodied (yields_one (Some (turn forth back)) (angle ∷ []) t (Ok None) y (f ∷ [], (subst (IsAnswer (symbols angle)) q a, tt), none)))
-  where
-    gives : (items : List Item) → Gives (turn forth back) (f ∷ []) items → ⊥
-    gives items (plain k m v i) = cc
-    gives items (turned fo ba g m o v i j) = n m (subst (λ x. IsQuarters x m) (sym (same_first v)) i)
-
-    none : (called : Named) (items : List Item) → Some (turn forth back) ≡ Some called → Gives called (f ∷ []) items → ⊥
-    none called items e g = gives items (subst (λ c. Gives c (f ∷ []) items) (sym (same_Some (turn forth back) called e)) g)
+  pub off_yield : (f : Ratio) → r ≡ Ok f → ((items : List Item) → Gives called (f ∷ []) items → ⊥) → Err OffGrid ≡ bodied t
+  off_yield f q n =
+      sym (ap bodied (yields_one (Some called) (angle ∷ []) t (Ok None) y
+      (f ∷ [], (subst (IsAnswer (symbols angle)) q answer, tt), λ other items e g. n items (subst (λ c. Gives c (f ∷ []) items) (sym (same_Some called other e)) g))))
 
 -- and a gate without angles
-pub gate_yield : (called : Named) (kind : Kind) (angles : List (List Lexeme)) (t : Taken) → called ≡ gate kind → Yields (Some called) angles t → length angles ≡ angle_count called → Ok (one kind ∷ []) ≡ bodied t
-gate_yield called kind [] t e y l =
-    sym (ap bodied (yields_one (Some (gate kind)) [] t (Ok (Some (one kind ∷ []))) (subst (λ c. Yields (Some c) [] t) e y) (gate kind, [], refl, tt, plain kind refl refl refl)))
-gate_yield called kind (a ∷ angles) t e y l = absurd (let q : suc (length angles) ≡ 0 = l ∙ ap angle_count e in omega arith)
+pub gate_yield : (called : Named) (kind : Kind) (angles : List (List Lexeme)) (t : Taken) → called.base ≡ gate kind → Yields (Some called) angles t → length angles ≡ angle_count called → Ok (one called.controls kind ∷ []) ≡ bodied t
+gate_yield called kind [] t e y l = sym (ap bodied (yields_one (Some called) [] t (Ok (Some (one called.controls kind ∷ []))) y (called, [], refl, tt, plain kind e refl refl)))
+gate_yield called kind (a ∷ angles) t e y l = absurd (let q : suc (length angles) ≡ 0 = l ∙ ap base_angles e in omega arith)

@@ -1,5 +1,5 @@
 //! Gates of a call, place by place.
-ghost use Rattle.std.specs.Prelude.{◌≡◌, ◌≤◌, ◌<◌, ◌++◌, ℕ, OnOk, All, length, map, replicate};
+ghost use Rattle.std.specs.Prelude.{◌≡◌, ◌≤◌, ◌<◌, ◌++◌, ℕ, OnOk, All, length, take, drop, map, replicate};
 ghost use Rattle.gate_set.specs.Shape.{IsPlaced};
 ghost use Rattle.qasm_reader.specs.Acts.{qubits_at, place_count, placed, product};
 ghost use Rattle.qasm_reader.specs.Calls.{one};

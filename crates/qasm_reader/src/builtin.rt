@@ -1,7 +1,9 @@
 //! The gates that have names.
-ghost use Rattle.std.specs.Prelude.{◌≡◌, ◌<◌, ◌≤◌, ◌-◌, ◌&&◌, nat_eq, option_map};
-ghost use Rattle.gate_set.specs.Matrix.{arity_of};
-ghost use Rattle.qasm_reader.specs.Calls.{builtin, based, bases, arity, base_arity, angle_count, base_angles, turns};
+ghost use Rattle.std.specs.Prelude.{◌≡◌, ◌<◌, ◌≤◌, ◌-◌, ◌&&◌, ℕ, nat_eq, IfSome, MatchOption, option_map};
+ghost use Rattle.std.specs.Str.{bytes_eq};
+ghost use Rattle.std.specs.Map.{lookup};
+ghost use Rattle.gate_set.specs.Matrix.{arity_of, IsKind};
+ghost use Rattle.qasm_reader.specs.Calls.{builtin, own, based, bases, plainly, with_control, arity, base_arity, angle_count, base_angles, turns};
 ghost use Rattle.qasm_reader.specs.Private.Seen.{seen_base, seen_named};
 ghost use Rattle.qasm_reader.specs.Private.Scope.{items_of};
 
@@ -57,7 +59,6 @@ impl Builtin {
 }
 
 /// The base of a name without letters c.
-#[tactic(auto)]
 fn base_named(name: &[u8]) -> Option<Base>
     ensures { option_map seen_base result ≡ lookup (bytes_eq name.now) bases }
 {
@@ -92,24 +93,55 @@ fn own_named(name: &[u8]) -> Option<Base>
     }
 }
 
+// A base alone.
+fn plain(base: Option<Base>) -> Option<Builtin>
+    ensures named { option_map seen_named result ≡ option_map plainly (option_map seen_base base) }
+    ensures few { IfSome result (λ b. b.controls ≡ 0) }
+{
+    match base {
+        Some(base) => Some(Builtin { controls: 0, base }),
+        None => None,
+    }
+}
+
+// A gate with one further control more.
+fn with_control(gate: Option<Builtin>, most: u8) -> Option<Builtin>
+    requires few { IfSome gate (λ b. b.controls < most) }
+    ensures named { option_map seen_named result ≡ option_map with_control (option_map seen_named gate) }
+    ensures few { IfSome result (λ b. b.controls ≤ most) }
+{
+    match gate {
+        Some(gate) => Some(Builtin {
+            controls: gate.controls + 1,
+            base: gate.base,
+        }),
+        None => None,
+    }
+}
+
+// What is left of a name after a first letter c, where one may stand there.
+fn after_letter(name: &[u8], most: u8) -> Option<&[u8]>
+    ensures { MatchOption result (based most name.now ≡ option_map plainly (lookup (bytes_eq name.now) bases)) (λ rest. (0 < most) × (based most name.now ≡ option_map with_control (based (most - 1) rest.now))) }
+{
+    if most == 0 {
+        return None;
+    }
+    let Some((first, rest)) = name.split_first() else {
+        return None;
+    };
+    if *first == b'c' { Some(rest) } else { None }
+}
+
 // The gate of a base's name with up to so many letters c before it.
 fn based(name: &[u8], most: u8) -> Option<Builtin>
     requires { most ≤ 8 }
     ensures named { option_map seen_named result ≡ based most name.now }
     ensures few { IfSome result (λ b. b.controls ≤ most) }
-    decreases { most }
 {
-    if most > 0 {
-        if let Some((b'c', rest)) = name.split_first() {
-            let inner = based(rest, most - 1)?;
-            return Some(Builtin {
-                controls: inner.controls + 1,
-                base: inner.base,
-            });
-        }
+    match after_letter(name, most) {
+        Some(rest) => with_control(based(rest, most - 1), most),
+        None => plain(base_named(name)),
     }
-    let base = base_named(name)?;
-    Some(Builtin { controls: 0, base })
 }
 
 /// The gate of a name.
@@ -117,10 +149,10 @@ pub fn gate_named(name: &[u8]) -> Option<Builtin>
     ensures named { option_map seen_named result ≡ builtin name.now }
     ensures few { IfSome result (λ b. b.controls ≤ 8) }
 {
-    if let Some(base) = own_named(name) {
-        return Some(Builtin { controls: 0, base });
+    match own_named(name) {
+        Some(base) => Some(Builtin { controls: 0, base }),
+        None => based(name, 8),
     }
-    based(name, 8)
 }
 
 /// How a number of quarter turns is done: by how many of which kind.
@@ -128,6 +160,7 @@ pub fn turns(forth: Kind, back: Kind, quarters: u8) -> (Kind, u8)
     requires { quarters < 8 }
     ensures items { (n : ℕ) → items_of n result ≡ turns n forth back quarters }
     ensures arity { arity_of forth ≡ 1 → arity_of back ≡ 1 → arity_of result.0 ≡ 1 }
+    ensures power { IsKind forth → IsKind back → IsKind result.0 }
 {
     if quarters == 0 {
         (Kind::Id, 1)

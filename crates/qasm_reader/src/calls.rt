@@ -99,6 +99,7 @@ pub fn first_angle(angles: Option<Angles<'_>>) -> (Option<Lexemes<'_>>, u8)
 fn turned(forth: Kind, back: Kind, angle: &Lexemes<'_>) -> Result<(Kind, u8), Why>
     ensures yields { (n : ℕ) (t : Taken) → Yields (Some (record { controls = n; base = turn forth back })) (option_to_list (Some angle.now)) t → bodies n result ≡ bodied t }
     ensures arity { arity_of forth ≡ 1 → arity_of back ≡ 1 → IfOk result (λ p. arity_of p.0 ≡ 1) }
+    ensures power { IsKind forth → IsKind back → IfOk result (λ p. IsKind p.0) }
 {
     match angle.fraction() {
         Err(refusal) => Err(Why::AngleRefused(refusal)),

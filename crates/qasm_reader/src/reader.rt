@@ -130,8 +130,7 @@ fn is_left_out(first: &[u8]) -> bool
     is_one_of(
         first,
         &[
-            b"gate", b"opaque", b"reset", b"if", b"U", b"CX", b"rz", b"u2", b"u3", b"crz",
-            b"cu3",
+            b"gate", b"opaque", b"reset", b"if", b"U", b"CX", b"rz", b"u2", b"u3", b"crz", b"cu3",
         ],
     )
 }

@@ -17,7 +17,7 @@ returns-clause-beyond c u =
 pub returns-clause-count : goal.returns-clause-count
 returns-clause-count c =
     let none : 0 + length c.args.arguments ≡ length c.args.arguments = omega arith in
-    ap (λ (f : Found). f.count) (noted c) ∙ look_count c.args.registers.now nothing_found c.args.arguments (omega arith) ∙ ap (λ n. min n 4) none
+    ap (λ (f : Found). f.count) (noted c) ∙ look_count c.args.registers.now nothing_found c.args.arguments (omega arith) ∙ ap (λ n. min n 12) none
 
 pub returns-clause-means : goal.returns-clause-means
 returns-clause-means c u b h =
