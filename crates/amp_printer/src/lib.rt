@@ -6,11 +6,7 @@ mod entry;
 mod line;
 mod listing;
 mod outcome;
-#[cfg(test)]
-mod tests;
 mod verdict;
-#[cfg(test)]
-mod verdict_tests;
 
 pub use counted::{Counted, count_line};
 pub use entry::{entry_text, state_line};

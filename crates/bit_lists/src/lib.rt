@@ -16,6 +16,3 @@ pub use order::Order;
 pub use out_of_memory::OutOfMemory;
 pub use partial::Partial;
 pub use place::{bit_of, with_bit};
-
-#[cfg(test)]
-mod tests;

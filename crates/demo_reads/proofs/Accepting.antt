@@ -173,7 +173,7 @@ one_gate kind on = record { kind = kind; on = on; extra = [] }
 -- at one place a call makes one gate
 product_is : (kind : Kind) (on : List ℕ) → length on ≡ arity_of kind → product (one 0 kind ∷ []) (map spot on) ≡ one_gate kind on ∷ []
 product_is kind on count =
-    ap (λ w. gates_at (up_to (get_or w 0 1))) (wholes_none on) ∙ ap (λ qs. map (placed qs) (one 0 kind ∷ [])) (qubits_are 0 on) ∙ placed_all 0 kind 1 on count
+    ap (λ w. gates_at (up_to (get_or w 0 1))) (wholes_none on) ∙ ap (λ qs. map (placed qs) (one 0 kind ∷ [])) (qubits_are 0 on) ∙ placed_all 0 kind 1 on (omega arith)
   where
     gates_at : List ℕ → List GateOf
     gates_at all = flat_map (λ place. map (placed (qubits_at (map spot on) place)) (one 0 kind ∷ [])) all
@@ -242,7 +242,7 @@ call_harmless limit q done before c k h le few =
       fresh = refl;
       register = ap (λ r. list_any (is_unknown r true) args || false) at ∙ or_none (list_any (is_unknown all true) args) (none_unknown q c.on);
       range = ap (λ r. list_any (is_beyond r) args || false) at ∙ or_none (list_any (is_beyond all) args) (none_beyond q c.on h.below h.reads);
-      count = ap (λ o. miscounts o (length args) 0) h.gate ∙ ap (λ b. not b || false) (eq_true (length args) (arity_of (kind_in (builtin c.name))) (length-args c.on ∙ h.count));
+      count = ap (λ o. miscounts o (length args) 0) h.gate ∙ ap (λ b. not b || false) (eq_true (length args) (0 + arity_of (kind_in (builtin c.name))) (omega (arith, length-args c.on, h.count)));
       sizes = call_sizes q done before c k h;
       once = λ d. call_places q done before c k h Repeats d (different c.on h.once);
       angle = none_refused;

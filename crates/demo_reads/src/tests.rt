@@ -3,7 +3,7 @@ use bit_lists::OutOfMemory;
 use gate_set::{Gate, Kind};
 
 fn is_gate(gate: &Gate, kind: Kind, on: &[u8]) -> bool {
-    gate.kind == kind && gate.on.as_slice() == on
+    gate.kind == kind && gate.on.as_slice() == on && gate.extra.as_slice().is_empty()
 }
 
 // The gates were drawn by a generator written apart from this one, in another language.

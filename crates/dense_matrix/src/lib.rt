@@ -5,8 +5,6 @@ mod comparing;
 mod matrix;
 mod places;
 mod step;
-#[cfg(test)]
-mod tests;
 mod witness;
 
 pub use comparing::{MatrixStop, compare};

@@ -9,8 +9,6 @@ mod kind;
 mod laws;
 mod qubits;
 mod table;
-#[cfg(test)]
-mod tests;
 
 pub use circuit::Circuit;
 pub use controls::Controls;

@@ -14,8 +14,6 @@ mod named;
 mod shelf;
 mod sink;
 mod stream_sink;
-#[cfg(test)]
-mod tests;
 mod whole;
 
 pub use buffered::Buffered;

@@ -4,8 +4,6 @@
 mod laws;
 mod next;
 mod outcome;
-#[cfg(test)]
-mod tests;
 mod weigh;
 
 pub use laws::states_by_outcome;

@@ -3,8 +3,6 @@
 //! A text is cut into tokens in one pass; a list of tokens is read as an exact fraction of π.
 #![tactic(auto)]
 
-#[cfg(test)]
-mod angle_tests;
 mod angles;
 mod bytes;
 mod descent;
@@ -19,8 +17,6 @@ mod refusal;
 mod scanning;
 mod symbol;
 mod token;
-#[cfg(test)]
-mod token_tests;
 mod value;
 
 pub use angles::angle;

@@ -6,8 +6,6 @@ mod laws;
 mod lowest_form;
 mod parity;
 mod quad;
-#[cfg(test)]
-mod tests;
 mod weight;
 
 pub use laws::{

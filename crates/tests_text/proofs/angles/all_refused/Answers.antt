@@ -1,7 +1,7 @@
 use Rattle.std.proofs.Common.{rules, ◌-◌, drop, All}
 use Rattle.std.proofs.lemmas.List.Elements.{All-take, All-drop}
 use Rattle.qasm_lex.specs.Lexemes.{IsWithin}
-use Rattle.qasm_lex.proofs.angle_tests.all_refused.Goals as goal
+use Rattle.tests_text.proofs.angles.all_refused.Goals as goal
 
 pub angle-requires : goal.angle-requires
 angle-requires c =

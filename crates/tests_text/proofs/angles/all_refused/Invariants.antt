@@ -1,6 +1,6 @@
 use Rattle.std.proofs.Common.{◌≤◌, All}
 use Rattle.qasm_lex.specs.Lexemes.{IsWithin}
-use Rattle.qasm_lex.proofs.angle_tests.all_refused.Given as goal
+use Rattle.tests_text.proofs.angles.all_refused.Given as goal
 
 -- the next angle begins here
 abbrev pub invariant-loop-to : goal.invariant-loop-to
