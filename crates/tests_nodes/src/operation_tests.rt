@@ -3,8 +3,8 @@ ghost use Rattle.std.specs.Prelude.{◌≡◌, ◌<◌, length};
 ghost use Rattle.diagram_model.specs.Stores.{IsLive};
 
 use crate::tools::{
-    applied, asked, both_of, filled, is_live, over, products, size_of, table_of, variable_node,
-    wide,
+    Held, applied, asked, both_of, diagrams_with, is_live, products, size_of, table_of,
+    variable_node, wide,
 };
 use bit_lists::Order;
 use diagram_ops::Diagrams;
@@ -72,15 +72,21 @@ fn all_tables() -> [u16; 16] {
 /// The tables that calls of this repository have.
 const NAMED: [u8; 10] = [15, 48, 60, 150, 172, 192, 202, 207, 232, 252];
 
-/// How many triples are right by all these tables, and how many nodes are held.
-fn all_right(alloc: Global) -> Option<(u32, u32)> {
-    let all = filled(alloc, &Order::natural(2), 14, &all_tables())?;
-    let mut d = over(alloc, all.store)?;
+/// How many triples are right by all these tables.
+fn each_right(held: &mut Held) -> u32 {
     let mut count = 0u32;
     for table in NAMED {
-        count = count.wrapping_add(right(&mut d, &all.nodes, table));
+        count = count.wrapping_add(right(&mut held.diagrams, &held.nodes, table));
     }
-    Some((count, d.store().held()))
+    count
+}
+
+/// How many triples are right by all these tables, and how many nodes are held.
+fn all_right(alloc: Global) -> Option<(u32, u32)> {
+    let mut held = diagrams_with(alloc, &Order::natural(2), 14, &all_tables())?;
+    let got = (each_right(&mut held), held.diagrams.store().held());
+    drop(held);
+    Some(got)
 }
 
 #[test]
@@ -115,47 +121,44 @@ fn fixed(d: &mut Diagrams, n: Node, var: u8, bit: bool) -> Result<Node, StoreSto
     }
 }
 
-/// What is seen of "x0 and x1".
-#[derive(PartialEq, Drop)]
-struct Shown {
-    held: u32,
-    table: Option<u16>,
-    size: Option<u32>,
-    asked: [Option<(bool, bool)>; 2],
-}
+/// How many nodes are held, the table of a node, its size, and what is asked of it and another one.
+type Shown = (u32, Option<u16>, Option<u32>, [Option<(bool, bool)>; 2]);
 
-/// How many nodes are held beside n, its table, its size, and what is asked of it and of x.
+/// What is seen of n beside x.
 fn seen(store: &Store, x: Node, n: Node) -> Shown {
-    Shown {
-        held: store.held(),
-        table: table_of(store, n),
-        size: size_of(store, &[n]),
-        asked: [asked(store, n, x, 0, None), asked(store, x, n, 0, None)],
-    }
+    let asked = [asked(store, n, x, 0, None), asked(store, x, n, 0, None)];
+    (
+        store.held(),
+        table_of(store, n),
+        size_of(store, &[n]),
+        asked,
+    )
 }
 
 /// "x0 and x1": what is seen of it, whether it is x1 or FALSE where x0 is fixed, and whether some answers
 /// are cached and then none.
-fn conjunction(alloc: Global) -> Option<(Shown, [bool; 2], [bool; 2])> {
-    let mut d = Diagrams::new(alloc, 2, 64, 16).ok()?;
-    let [x, y, n] = both_of(&mut d, 0, 1).ok()?;
+fn conjunction(d: &mut Diagrams) -> Option<(Shown, [bool; 4])> {
+    let [x, y, n] = both_of(d, 0, 1).ok()?;
     let is_cached = d.cached() >= 1;
-    let seen = seen(d.store(), x, n);
-    let with = fixed(&mut d, n, 0, true) == Ok(y);
-    let without = fixed(&mut d, n, 0, false) == Ok(FALSE);
+    let shown = seen(d.store(), x, n);
+    let with = fixed(d, n, 0, true) == Ok(y);
+    let without = fixed(d, n, 0, false) == Ok(FALSE);
     d.forget();
-    Some((seen, [with, without], [is_cached, d.cached() == 0]))
+    Some((shown, [is_cached, with, without, d.cached() == 0]))
+}
+
+/// The conjunction in diagrams of two variables.
+fn conjunction_of_two(alloc: Global) -> Option<(Shown, [bool; 4])> {
+    let mut d = Diagrams::new(alloc, 2, 64, 16).ok()?;
+    let got = conjunction(&mut d);
+    drop(d);
+    got
 }
 
 #[test]
 fn and_of_two_variables(rt: HostRuntime) {
-    let want = Shown {
-        held: 3,
-        table: Some(0xf000),
-        size: Some(2),
-        asked: [Some((true, true)); 2],
-    };
-    assert!(rt; conjunction(rt.alloc()) == Some((want, [true; 2], [true; 2])));
+    let shown = (3, Some(0xf000), Some(2), [Some((true, true)); 2]);
+    assert!(rt; conjunction_of_two(rt.alloc()) == Some((shown, [true; 4])));
 }
 
 /// A call, whose operands are the answers of earlier ones.
@@ -201,16 +204,16 @@ fn grown(d: &mut Diagrams, nodes: &mut Vec<Node>) -> Result<Node, StoreStop> {
 /// How many of the constants and of the nodes that calls answered have their truth tables.
 fn compared(store: &Store, nodes: &[Node]) -> usize {
     let mut count = 0usize;
-    for (i, n) in nodes.iter().enumerate() {
-        if let Some((_, truths)) = CALLS.get(i) {
-            if table_of(store, *n) == Some(*truths) {
-                count = count.wrapping_add(1);
-            }
-        }
-    }
     for (n, truths) in [(FALSE, 0), (TRUE, 0xffff)] {
         if table_of(store, n) == Some(truths) {
             count = count.wrapping_add(1);
+        }
+    }
+    for i in 0..CALLS.len() {
+        if let Some(n) = nodes.get(i) {
+            if table_of(store, *n) == Some(CALLS[i].1) {
+                count = count.wrapping_add(1);
+            }
         }
     }
     count
@@ -219,27 +222,36 @@ fn compared(store: &Store, nodes: &[Node]) -> usize {
 /// The last answer, how many nodes are held, and how many have their truth tables.
 type Outcome = (Result<Node, StoreStop>, u32, usize);
 
-/// Makes the calls, with so many nodes and cached answers.
+/// Makes the calls.
 fn grown_once(d: &mut Diagrams, alloc: Global) -> Outcome {
     let mut nodes = Vec::new(alloc);
     let answer = grown(d, &mut nodes);
-    (answer, d.store().held(), compared(d.store(), &nodes))
+    let compared = compared(d.store(), &nodes);
+    drop(nodes);
+    (answer, d.store().held(), compared)
 }
 
-/// Makes the calls twice, with so many nodes and cached answers, which must come to the same.
-fn grown_at(alloc: Global, limit: u32, capacity: u32) -> Option<Outcome> {
-    if limit < 1 || limit > 64 || capacity < 1 || capacity > 64 {
-        return None;
-    }
-    let mut d = Diagrams::new(alloc, 4, limit, capacity).ok()?;
-    let first = grown_once(&mut d, alloc);
-    if grown_once(&mut d, alloc) != first {
+/// Makes the calls twice, which must come to the same.
+fn grown_twice(d: &mut Diagrams, alloc: Global) -> Option<Outcome> {
+    let first = grown_once(d, alloc);
+    if grown_once(d, alloc) != first {
         return None;
     }
     match first.0 {
         Ok(n) if size_of(d.store(), &[n]) != Some(7) => None,
         _ => Some(first),
     }
+}
+
+/// Makes the calls twice, with so many nodes and cached answers.
+fn grown_at(alloc: Global, limit: u32, capacity: u32) -> Option<Outcome> {
+    if limit < 1 || limit > 64 || capacity < 1 || capacity > 64 {
+        return None;
+    }
+    let mut d = Diagrams::new(alloc, 4, limit, capacity).ok()?;
+    let outcome = grown_twice(&mut d, alloc);
+    drop(d);
+    outcome
 }
 
 /// What comes of a limit, whatever the node.
@@ -278,14 +290,28 @@ fn a_small_cache_makes_the_same_nodes(rt: HostRuntime) {
 
 /// Takes a store out and puts another one in its place: how many nodes both hold, the limit, and whether
 /// the other's variables are there.
+fn exchanged(d: &mut Diagrams, other: Store) -> (u32, u32, u32, bool) {
+    d.forget();
+    let store = mem::replace(d.lend(), other);
+    let taken = store.held();
+    drop(store);
+    let (held, limit) = (d.store().held(), d.store().limit());
+    (taken, held, limit, variable_node(d, 2).is_ok())
+}
+
+/// Takes a store of one node out, and puts one of three variables and at most eight nodes in its place.
+fn lent_in(alloc: Global, d: &mut Diagrams) -> Option<(u32, u32, u32, bool)> {
+    variable_node(d, 1).ok()?;
+    let other = Store::new(alloc, 3, 8).ok()?;
+    Some(exchanged(d, other))
+}
+
+/// What comes of that in diagrams of two variables.
 fn lent(alloc: Global) -> Option<(u32, u32, u32, bool)> {
     let mut d = Diagrams::new(alloc, 2, 64, 16).ok()?;
-    variable_node(&mut d, 1).ok()?;
-    d.forget();
-    let other = Store::new(alloc, 3, 8).ok()?;
-    let store = mem::replace(d.lend(), other);
-    let (held, limit) = (d.store().held(), d.store().limit());
-    Some((store.held(), held, limit, variable_node(&mut d, 2).is_ok()))
+    let got = lent_in(alloc, &mut d);
+    drop(d);
+    got
 }
 
 #[test]
@@ -311,13 +337,20 @@ const PAIRS: [(u8, u8); 13] = [
 ];
 
 /// The size of an inner product, and whether it is the same node when it is made again.
-fn inner_products(alloc: Global) -> Option<(Option<u32>, bool)> {
-    let mut d = Diagrams::new(alloc, 26, 262144, 16).ok()?;
-    let first = products(&mut d, 60, &PAIRS).ok()?;
+fn made_again(d: &mut Diagrams) -> Option<(Option<u32>, bool)> {
+    let first = products(d, 60, &PAIRS).ok()?;
     let size = size_of(d.store(), &[first]);
     d.forget();
-    let second = products(&mut d, 60, &PAIRS).ok()?;
+    let second = products(d, 60, &PAIRS).ok()?;
     Some((size, first == second))
+}
+
+/// The inner product in diagrams of its variables.
+fn inner_products(alloc: Global) -> Option<(Option<u32>, bool)> {
+    let mut d = Diagrams::new(alloc, 26, 262144, 16).ok()?;
+    let got = made_again(&mut d);
+    drop(d);
+    got
 }
 
 // Level i of the upper half has 2^i functions, one for each choice of the variables above, which is 8191
@@ -350,16 +383,23 @@ fn halves_of_parity(d: &mut Diagrams) -> Result<[Node; 2], StoreStop> {
 }
 
 /// What is asked of both halves of the parity, without x59 and with it.
-fn asked_of_halves(alloc: Global) -> Option<[Option<(bool, bool)>; 2]> {
-    let mut d = Diagrams::new(alloc, 60, 4096, 16).ok()?;
-    let [f, g] = halves_of_parity(&mut d).ok()?;
+fn asked_of_halves(d: &mut Diagrams) -> Option<[Option<(bool, bool)>; 2]> {
+    let [f, g] = halves_of_parity(d).ok()?;
     let without = asked(d.store(), f, g, 59, Some(false));
     Some([without, asked(d.store(), f, g, 59, Some(true))])
+}
+
+/// The halves in diagrams of sixty variables.
+fn asked_of_sixty(alloc: Global) -> Option<[Option<(bool, bool)>; 2]> {
+    let mut d = Diagrams::new(alloc, 60, 4096, 16).ok()?;
+    let got = asked_of_halves(&mut d);
+    drop(d);
+    got
 }
 
 // A walk that met a pair of nodes more than once would take some 2^58 steps.
 #[test]
 fn tests_on_a_parity_are_linear(rt: HostRuntime) {
     let want = Some([Some((false, false)), Some((true, true))]);
-    assert!(rt; asked_of_halves(rt.alloc()) == want);
+    assert!(rt; asked_of_sixty(rt.alloc()) == want);
 }

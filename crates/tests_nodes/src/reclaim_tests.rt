@@ -28,19 +28,26 @@ fn to_one_root(alloc: Global, d: &mut Diagrams) -> Option<((u32, u32, u32), [Nod
 }
 
 /// Reclaims to one root, to all nodes, to the constants, and to no root once the nodes are made again.
-fn each_left(alloc: Global) -> Option<[(u32, u32, u32); 4]> {
-    let mut d = Diagrams::new(alloc, 2, 64, 16).ok()?;
-    let (one, next) = to_one_root(alloc, &mut d)?;
-    let all = reclaimed(alloc, &mut d, &next)?;
-    let constants = reclaimed(alloc, &mut d, &[FALSE, TRUE])?;
-    both_of(&mut d, 0, 1).ok()?;
-    let none = reclaimed(alloc, &mut d, &[])?;
+fn each_left(alloc: Global, d: &mut Diagrams) -> Option<[(u32, u32, u32); 4]> {
+    let (one, next) = to_one_root(alloc, d)?;
+    let all = reclaimed(alloc, d, &next)?;
+    let constants = reclaimed(alloc, d, &[FALSE, TRUE])?;
+    both_of(d, 0, 1).ok()?;
+    let none = reclaimed(alloc, d, &[])?;
     Some([one, all, constants, none])
+}
+
+/// What is left in diagrams of two variables.
+fn each_left_of_two(alloc: Global) -> Option<[(u32, u32, u32); 4]> {
+    let mut d = Diagrams::new(alloc, 2, 64, 16).ok()?;
+    let left = each_left(alloc, &mut d);
+    drop(d);
+    left
 }
 
 // Held are two variables, and a node of the first variable above the second one's.
 #[test]
 fn reclaim_one(rt: HostRuntime) {
     let want = Some([(1, 2, 0), (0, 3, 0), (3, 0, 0), (3, 0, 0)]);
-    assert!(rt; each_left(rt.alloc()) == want);
+    assert!(rt; each_left_of_two(rt.alloc()) == want);
 }

@@ -2,7 +2,7 @@
 ghost use Rattle.std.specs.Prelude.{◌≤◌};
 
 use crate::tools::{
-    TABLES, are_live, exchanged, filled, in_places, is_live, orders, over, products, table_of,
+    Held, TABLES, diagrams_with, exchanged, in_places, is_live, orders, products, table_of,
     variables,
 };
 use bit_lists::Order;
@@ -185,18 +185,12 @@ fn sifted(alloc: Global, d: &mut Diagrams, root: Node, var: u8) -> Option<Sifted
     }
 }
 
-/// Diagrams that hold a table, and its node.
-fn diagrams_of(alloc: Global, order: &Order, limit: u32, table: u16) -> Option<(Diagrams, Node)> {
-    let one = filled(alloc, order, limit, &[table])?;
-    let root = *one.nodes.get(0)?;
-    Some((over(alloc, one.store)?, root))
-}
-
 /// What comes of the sift of a variable of a table, where the root keeps it, the store has the order that is
 /// answered, and nothing else is held or cached.
-fn outcome(alloc: Global, order: &Order, limit: u32, table: u16, var: u8) -> Option<Outcome> {
-    let (mut d, root) = diagrams_of(alloc, order, limit, table)?;
-    let answer = sifted(alloc, &mut d, root, var)?;
+fn outcome_in(alloc: Global, held: &mut Held, table: u16, var: u8) -> Option<Outcome> {
+    let root = *held.nodes.get(0)?;
+    let d = &mut held.diagrams;
+    let answer = sifted(alloc, d, root, var)?;
     let is_right = table_of(d.store(), root) == Some(table)
         && variables(&d.store().order()) == variables(&answer.order)
         && d.store().held() == answer.after
@@ -206,6 +200,14 @@ fn outcome(alloc: Global, order: &Order, limit: u32, table: u16, var: u8) -> Opt
     } else {
         None
     }
+}
+
+/// What comes of the sift of a variable in diagrams that hold a table.
+fn outcome(alloc: Global, order: &Order, limit: u32, table: u16, var: u8) -> Option<Outcome> {
+    let mut held = diagrams_with(alloc, order, limit, &[table])?;
+    let outcome = outcome_in(alloc, &mut held, table, var);
+    drop(held);
+    outcome
 }
 
 /// How many variables of a table come to the place that must be.
@@ -225,14 +227,22 @@ fn count_right(alloc: Global, order: &Order, limit: u32, table: u16) -> u32 {
     count
 }
 
-/// How many sifts are right, of each table in each order.
-fn each_order(alloc: Global) -> Option<u32> {
+/// How many sifts are right, of each table in each order of some.
+fn each_table(alloc: Global, orders: &[Order]) -> u32 {
     let mut count = 0u32;
-    for order in &orders(alloc)? {
+    for order in orders {
         for table in TABLES {
             count = count.wrapping_add(count_right(alloc, order, 1000, table));
         }
     }
+    count
+}
+
+/// How many sifts are right, of each table in each order.
+fn each_order(alloc: Global) -> Option<u32> {
+    let orders = orders(alloc)?;
+    let count = each_table(alloc, &orders);
+    drop(orders);
     Some(count)
 }
 
@@ -290,52 +300,71 @@ fn sift_stopped_both_ways(rt: HostRuntime) {
     assert!(rt; crossed(rt.alloc(), 14, 2) == want);
 }
 
-/// `sift_all` for one root: the place, and the nodes before and after, of each variable.
-fn all_sifted(alloc: Global, d: &mut Diagrams, root: Node) -> Option<Vec<(u8, u32, u32)>> {
-    let roots = [root];
-    if !are_live(d.store(), &roots) {
-        return None;
+/// Whether answers have places and sizes as wanted, one after another.
+fn are_wanted(answers: &[Sifted], want: &[(u8, u32, u32)]) -> bool {
+    for i in 0..want.len() {
+        match answers.get(i) {
+            Some(answer) if (answer.place, answer.before, answer.after) == want[i] => (),
+            _ => return false,
+        }
     }
-    let answers = sift_all(alloc, d, &roots).ok()?;
-    let mut all = Vec::new(alloc);
-    for answer in &answers {
-        all.push((answer.place, answer.before, answer.after)).ok()?;
-    }
-    Some(all)
+    answers.len() == want.len()
 }
 
-/// Sifts all variables of "x0 and x3, or x1 and x4, or x2 and x5": whether the places and the nodes are as
-/// wanted, how many nodes are held, and the order.
-fn all_of_six(alloc: Global, want: &[(u8, u32, u32)]) -> Option<(bool, u32, Variables)> {
+/// Whether `sift_all` for one root answers as wanted.
+fn all_sifted(alloc: Global, d: &mut Diagrams, root: Node, want: &[(u8, u32, u32)]) -> bool {
+    if !is_live(d.store(), root) {
+        return false;
+    }
+    let Ok(answers) = sift_all(alloc, d, &[root]) else {
+        return false;
+    };
+    let are_wanted = are_wanted(&answers, want);
+    drop(answers);
+    are_wanted
+}
+
+/// The places, and the nodes before and after, of the variables of "x0 and x3, or x1 and x4, or x2 and x5".
+const ANSWERS: [(u8, u32, u32); 6] = [
+    (0, 14, 14),
+    (3, 14, 10),
+    (4, 10, 6),
+    (0, 6, 6),
+    (2, 6, 6),
+    (4, 6, 6),
+];
+
+/// Whether all variables come to their places, how many nodes are held, and the order.
+fn all_of_six(alloc: Global, d: &mut Diagrams) -> Option<(bool, u32, Variables)> {
+    let root = products(d, 252, &[(0, 3), (1, 4), (2, 5)]).ok()?;
+    let are_wanted = all_sifted(alloc, d, root, &ANSWERS);
+    Some((are_wanted, d.store().held(), variables(&d.store().order())))
+}
+
+/// What comes of that in diagrams of six variables.
+fn six_sifted(alloc: Global) -> Option<(bool, u32, Variables)> {
     let mut d = Diagrams::new(alloc, 6, 1000, 16).ok()?;
-    let root = products(&mut d, 252, &[(0, 3), (1, 4), (2, 5)]).ok()?;
-    let all = all_sifted(alloc, &mut d, root)?;
-    let is_wanted = all.as_slice() == want;
-    Some((is_wanted, d.store().held(), variables(&d.store().order())))
+    let got = all_of_six(alloc, &mut d);
+    drop(d);
+    got
 }
 
 // In the natural order fourteen nodes are needed, and with the variables of each product together six.
 #[test]
 fn all_variables_in_turn_come_to_the_good_order(rt: HostRuntime) {
-    let answers = [
-        (0, 14, 14),
-        (3, 14, 10),
-        (4, 10, 6),
-        (0, 6, 6),
-        (2, 6, 6),
-        (4, 6, 6),
-    ];
-    let order = [3, 0, 4, 1, 5, 2].map(Some);
-    assert!(rt; all_of_six(rt.alloc(), &answers) == Some((true, 6, order)));
+    let order = [Some(3), Some(0), Some(4), Some(1), Some(5), Some(2)];
+    assert!(rt; six_sifted(rt.alloc()) == Some((true, 6, order)));
 }
 
-/// How many answers there are without variables.
-fn none_sifted(alloc: Global) -> Option<usize> {
+/// Whether there is no answer without variables.
+fn none_sifted(alloc: Global) -> Option<bool> {
     let mut d = Diagrams::new(alloc, 0, 1, 1).ok()?;
-    Some(all_sifted(alloc, &mut d, TRUE)?.len())
+    let is_none = all_sifted(alloc, &mut d, TRUE, &[]);
+    drop(d);
+    Some(is_none)
 }
 
 #[test]
 fn no_variable_has_no_answer(rt: HostRuntime) {
-    assert_eq!(rt; none_sifted(rt.alloc()), Some(0));
+    assert_eq!(rt; none_sifted(rt.alloc()), Some(true));
 }

@@ -23,24 +23,32 @@ fn all_tables(alloc: Global) -> Option<Vec<u16>> {
 }
 
 /// How many nodes have a number below 256, and denote what the table at their place says.
-fn count_right(store: &Store, nodes: &[Node], tables: &[u16]) -> u32 {
+fn count_right(all: &Tabled, tables: &[u16]) -> u32 {
     let mut count = 0u32;
-    for (i, n) in nodes.iter().enumerate() {
-        if n.0 < 256 && table_of(store, *n) == tables.get(i).copied() {
-            count = count.wrapping_add(1);
+    for i in 0..tables.len() {
+        if let Some(n) = all.nodes.get(i) {
+            if n.0 < 256 && table_of(&all.store, *n) == Some(tables[i]) {
+                count = count.wrapping_add(1);
+            }
         }
     }
     count
 }
 
 /// How many functions of three variables are different nodes, and how many nodes they need.
+fn all_right(alloc: Global, order: &Order, tables: &[u16]) -> Option<(u32, u32)> {
+    let all = filled(alloc, order, 254, tables)?;
+    let got = (count_right(&all, tables), all.store.held());
+    drop(all);
+    Some(got)
+}
+
+/// `all_right` by the tables of all functions.
 fn all_functions(alloc: Global, order: &Order) -> Option<(u32, u32)> {
     let tables = all_tables(alloc)?;
-    let all = filled(alloc, order, 254, &tables)?;
-    Some((
-        count_right(&all.store, &all.nodes, &tables),
-        all.store.held(),
-    ))
+    let got = all_right(alloc, order, &tables);
+    drop(tables);
+    got
 }
 
 #[test]
@@ -55,14 +63,8 @@ fn all_functions_are_different_nodes_in_another_order(rt: HostRuntime) {
     assert_eq!(rt; got, Some((256, 254)));
 }
 
-/// The sizes of parity, majority and the choice of x1 or x2 by x0, alone and together.
-fn sizes(alloc: Global, order: &Order) -> Option<[u32; 4]> {
-    let three = filled(
-        alloc,
-        order,
-        100,
-        &[wide(150, 1), wide(232, 1), wide(202, 1)],
-    )?;
+/// The sizes of three nodes, alone and together.
+fn sizes_of(three: &Tabled) -> Option<[u32; 4]> {
     let mut sizes = [0u32; 4];
     for i in 0..3usize {
         let n = *three.nodes.get(i)?;
@@ -70,6 +72,15 @@ fn sizes(alloc: Global, order: &Order) -> Option<[u32; 4]> {
     }
     sizes[3] = size_of(&three.store, &three.nodes)?;
     Some(sizes)
+}
+
+/// The sizes of parity, majority and the choice of x1 or x2 by x0, alone and together.
+fn sizes(alloc: Global, order: &Order) -> Option<[u32; 4]> {
+    let tables = [wide(150, 1), wide(232, 1), wide(202, 1)];
+    let three = filled(alloc, order, 100, &tables)?;
+    let sizes = sizes_of(&three);
+    drop(three);
+    sizes
 }
 
 #[test]
@@ -84,15 +95,22 @@ fn a_choice_is_larger_where_it_is_asked_last(rt: HostRuntime) {
     assert_eq!(rt; got, Some([5, 4, 5, 10]));
 }
 
-/// Whether two variables in a store of two nodes are one, what a third node is answered, and whether the
-/// first one is found again.
+/// Whether two variables are one node, what a third node is answered, and whether the first one is found
+/// again.
+fn answers_of(store: &mut Store) -> Option<(bool, Result<Node, StoreStop>, bool)> {
+    let first = made(store, 0, FALSE, TRUE);
+    let second = made(store, 1, FALSE, TRUE).ok()?;
+    let third = made(store, 0, FALSE, second);
+    let again = made(store, 0, FALSE, TRUE);
+    Some((first == Ok(second), third, first.is_ok() && again == first))
+}
+
+/// What a store of at most two nodes answers.
 fn at_limit(alloc: Global) -> Option<(bool, Result<Node, StoreStop>, bool)> {
     let mut store = Store::new(alloc, 2, 2).ok()?;
-    let first = made(&mut store, 0, FALSE, TRUE);
-    let second = made(&mut store, 1, FALSE, TRUE).ok()?;
-    let third = made(&mut store, 0, FALSE, second);
-    let again = made(&mut store, 0, FALSE, TRUE);
-    Some((first == Ok(second), third, first.is_ok() && again == first))
+    let answers = answers_of(&mut store);
+    drop(store);
+    answers
 }
 
 #[test]
@@ -102,30 +120,48 @@ fn a_full_store_finds_what_it_holds(rt: HostRuntime) {
 }
 
 /// Whether a copy holds three nodes, under the same numbers.
-fn is_copied(tabled: &Tabled) -> bool {
-    let Ok(copy) = tabled.store.try_copy() else {
-        return false;
-    };
-    for n in &tabled.nodes {
-        if copy.parts_of(*n) != tabled.store.parts_of(*n) {
+fn is_copy(copy: &Store, three: &Tabled) -> bool {
+    for n in &three.nodes {
+        if copy.parts_of(*n) != three.store.parts_of(*n) {
             return false;
         }
     }
-    copy.held() == 3 && copy.limit() == tabled.store.limit()
+    copy.held() == 3 && copy.limit() == three.store.limit()
 }
 
-/// The conjunction of two variables: its size, what is asked of it beside the first variable, which is free
-/// and then fixed, and whether it is copied.
-fn conjunction(alloc: Global) -> Option<(Option<u32>, [Option<(bool, bool)>; 3], bool)> {
-    let three = filled(alloc, &Order::natural(2), 64, &[0xff00, 0xf0f0, 0xf000])?;
+/// Whether a store of three nodes is copied.
+fn is_copied(three: &Tabled) -> bool {
+    let Ok(copy) = three.store.try_copy() else {
+        return false;
+    };
+    let is_copied = is_copy(&copy, three);
+    drop(copy);
+    is_copied
+}
+
+/// The size of the last of three nodes, what is asked of it beside the first one, whose variable is free and
+/// then fixed, and whether they are copied.
+type Answers = (Option<u32>, [Option<(bool, bool)>; 3], bool);
+
+/// What is answered of a conjunction of two variables.
+fn answered(three: &Tabled) -> Option<Answers> {
     let first = *three.nodes.get(0)?;
     let both = *three.nodes.get(2)?;
+    let answers = [
+        asked(&three.store, both, first, 0, None),
+        asked(&three.store, both, first, 0, Some(false)),
+        asked(&three.store, both, first, 0, Some(true)),
+    ];
     let size = size_of(&three.store, &[both, both, both]);
-    let mut answers = [None; 3];
-    for (i, bit) in [None, Some(false), Some(true)].iter().enumerate() {
-        answers[i] = asked(&three.store, both, first, 0, *bit);
-    }
-    Some((size, answers, is_copied(&three)))
+    Some((size, answers, is_copied(three)))
+}
+
+/// The conjunction of two variables.
+fn conjunction(alloc: Global) -> Option<Answers> {
+    let three = filled(alloc, &Order::natural(2), 64, &[0xff00, 0xf0f0, 0xf000])?;
+    let answers = answered(&three);
+    drop(three);
+    answers
 }
 
 #[test]
@@ -144,58 +180,96 @@ fn marks_of(store: &Store, n: Node) -> Option<Reached> {
     }
 }
 
+/// What is known of all functions of three variables before the nodes of parity alone are kept.
+#[derive(Drop)]
+struct Apart {
+    marks: Reached,
+    parity: Node,
+    majority: Parts,
+}
+
+/// Marks what parity reaches, which majority's node is not among.
+fn marked(all: &Tabled) -> Option<Apart> {
+    let parity = *all.nodes.get(150)?;
+    let majority = *all.nodes.get(232)?;
+    let parts = all.store.parts_of(majority)?;
+    let marks = marks_of(&all.store, parity)?;
+    let is_apart = marks.has(parity) && !marks.has(majority);
+    let marked = Apart {
+        marks,
+        parity,
+        majority: parts,
+    };
+    if is_apart {
+        Some(marked)
+    } else {
+        drop(marked);
+        None
+    }
+}
+
 /// All functions of three variables, of which the nodes of parity are kept.
 #[derive(Drop)]
 struct OfParity {
     slots: Slots,
-    parity: Node,
-    majority: Parts,
+    marked: Apart,
     freed: u32,
 }
 
-/// Keeps what parity reaches, which majority's node is not among.
-fn kept_of(store: Store, parity: Node, majority: Node) -> Option<OfParity> {
-    let parts = store.parts_of(majority)?;
-    let marks = marks_of(&store, parity)?;
-    if !marks.has(parity) || marks.has(majority) {
-        return None;
-    }
+/// Keeps what is marked.
+fn kept_of(all: Tabled, marked: Apart) -> OfParity {
+    let Tabled { store, nodes } = all;
+    drop(nodes);
     let mut slots = store.unseal().seal().unseal();
-    let freed = slots.keep_only(&marks);
-    Some(OfParity {
+    let freed = slots.keep_only(&marked.marks);
+    OfParity {
         slots,
-        parity,
-        majority: parts,
+        marked,
         freed,
-    })
+    }
+}
+
+/// Fills a store with the functions of tables, and keeps parity.
+fn kept_from(alloc: Global, tables: &[u16]) -> Option<OfParity> {
+    let all = filled(alloc, &Order::natural(3), 254, tables)?;
+    match marked(&all) {
+        Some(marked) => Some(kept_of(all, marked)),
+        None => {
+            drop(all);
+            None
+        }
+    }
 }
 
 /// Fills a store with all functions of three variables, and keeps parity.
 fn kept(alloc: Global) -> Option<OfParity> {
     let tables = all_tables(alloc)?;
-    let Tabled { store, nodes } = filled(alloc, &Order::natural(3), 254, &tables)?;
-    let parity = *nodes.get(150)?;
-    let majority = *nodes.get(232)?;
-    kept_of(store, parity, majority)
+    let kept = kept_from(alloc, &tables);
+    drop(tables);
+    kept
+}
+
+/// Whether all numbers are of nodes of a variable, and as many as are held.
+fn are_of(slots: &Slots, var: u8, numbers: &[u32]) -> bool {
+    for number in numbers {
+        match slots.parts_of(Node(*number)) {
+            Some(parts) if parts.var == var => (),
+            _ => return false,
+        }
+    }
+    var < slots.order().len() && slots.nodes_of(var) as usize == numbers.len()
 }
 
 /// How many nodes of a variable are held, by their number and by their list.
-fn count_of(slots: &Slots, var: u8) -> Option<u32> {
+fn count_of(slots: &Slots, var: u8) -> Option<usize> {
     if var >= slots.order().len() {
         return None;
     }
     let numbers = slots.numbers_of(var).ok()?;
-    for number in &numbers {
-        if slots.parts_of(Node(*number))?.var != var {
-            return None;
-        }
-    }
-    let count = slots.nodes_of(var);
-    if count as usize == numbers.len() {
-        Some(count)
-    } else {
-        None
-    }
+    let count = numbers.len();
+    let is_right = are_of(slots, var, &numbers);
+    drop(numbers);
+    if is_right { Some(count) } else { None }
 }
 
 /// How many held nodes are met from number to number, at most ten.
@@ -249,8 +323,8 @@ fn is_rewritten(slots: &mut Slots, n: Node, parts: Parts) -> bool {
 
 /// Gives parity's node the parts of majority's, once another one had them. Whether all was right.
 fn is_rearranged(kept: &mut OfParity) -> bool {
-    comes_and_goes(&mut kept.slots, kept.majority)
-        && is_rewritten(&mut kept.slots, kept.parity, kept.majority)
+    comes_and_goes(&mut kept.slots, kept.marked.majority)
+        && is_rewritten(&mut kept.slots, kept.marked.parity, kept.marked.majority)
 }
 
 /// The first variable, once it and the second one are exchanged.
@@ -262,7 +336,7 @@ fn first_exchanged(slots: &mut Slots) -> Option<u8> {
 }
 
 /// How many nodes are held in all, met on a walk, and held of each variable.
-fn counts(slots: &Slots) -> (u32, u32, [Option<u32>; 3]) {
+fn counts(slots: &Slots) -> (u32, u32, [Option<usize>; 3]) {
     let of_each = [count_of(slots, 0), count_of(slots, 1), count_of(slots, 2)];
     (slots.held(), walked(slots), of_each)
 }
@@ -276,4 +350,5 @@ fn nodes_that_no_root_reaches_are_freed(rt: HostRuntime) {
     assert!(rt; kept.freed == 249 && kept.slots.order().len() == 3);
     assert!(rt; counts(&kept.slots) == (5, 5, [Some(1), Some(2), Some(2)]));
     assert!(rt; is_rearranged(&mut kept) && first_exchanged(&mut kept.slots) == Some(1));
+    drop(kept);
 }

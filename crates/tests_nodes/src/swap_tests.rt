@@ -1,7 +1,7 @@
 //! Swaps in stores of two and of four variables, with all truth tables before and after.
 ghost use Rattle.std.specs.Prelude.{◌≡◌, ◌+◌, ◌<◌, true, length};
 
-use crate::tools::{TABLES, exchanged, filled, orders, table_of, variable, variables};
+use crate::tools::{TABLES, Tabled, exchanged, filled, orders, table_of, variable, variables};
 use bit_lists::Order;
 use diagram_model::Parts;
 use level_swap::{Room, SwapStop, room, swap, try_swap};
@@ -84,48 +84,85 @@ fn swapped(alloc: Global, store: &mut Store, level: u8) -> bool {
     is_level(store, level) && room(store, level).is_enough() && swap(alloc, store, level).is_ok()
 }
 
+/// Whether a swap there was room for kept the tables, exchanged two variables, and added so much at most.
+fn is_swapped(store: &Store, before: &[Entry], order: &Order, most: u32) -> bool {
+    variables(&store.order()) == variables(order)
+        && keeps(store, before, false)
+        && store.held() <= most
+}
+
 /// Swaps once. The room there was, if it is right, the variables have changed places, all live nodes have
 /// their tables, and at most half of what is needed there and back was added.
 fn swapped_rightly(alloc: Global, store: &mut Store, level: u8) -> Option<Room> {
     let order = store.order();
     let held = store.held();
-    let before = entries(alloc, store)?;
     let there = room_at(store, level)?;
+    let before = entries(alloc, store)?;
     let want = Room {
         free: store.limit().wrapping_sub(held),
         need: count_of(&before, variable(&order, level)).wrapping_mul(4),
     };
+    let most = held.wrapping_add(there.need / 2);
     let is_right = there == want
         && swapped(alloc, store, level)
-        && variables(&store.order()) == variables(&exchanged(order, level))
-        && keeps(store, &before, false)
-        && store.held().wrapping_sub(held) <= there.need / 2;
+        && is_swapped(store, &before, &exchanged(order, level), most)
+        && held <= store.held();
+    drop(before);
     if is_right { Some(there) } else { None }
 }
 
-/// Swaps two places of a store of all tables, and swaps them back. Whether the order and the parts of the
-/// nodes are as before, and no more was added than is needed.
-fn there_and_back(alloc: Global, order: &Order, level: u8) -> Option<bool> {
-    let mut store = filled(alloc, order, 1000, &TABLES)?.store;
-    let held = store.held();
-    let before = entries(alloc, &store)?;
-    let there = swapped_rightly(alloc, &mut store, level)?;
-    swapped_rightly(alloc, &mut store, level)?;
-    let is_same = variables(&store.order()) == variables(order);
-    let more = store.held().wrapping_sub(held);
-    Some(is_same && keeps(&store, &before, true) && more <= there.need)
+/// How much two swaps of a level may add.
+fn swapped_twice(alloc: Global, store: &mut Store, level: u8) -> Option<u32> {
+    let there = swapped_rightly(alloc, store, level)?;
+    swapped_rightly(alloc, store, level)?;
+    Some(there.need)
 }
 
-/// How many swaps come out right, of each level in each order of four variables.
-fn each_order(alloc: Global) -> Option<u32> {
+/// Swaps two places and swaps them back. Whether the parts of the nodes are as before, and no more was added
+/// than is needed.
+fn comes_back(alloc: Global, store: &mut Store, level: u8) -> bool {
+    let held = store.held();
+    let Some(before) = entries(alloc, store) else {
+        return false;
+    };
+    let need = swapped_twice(alloc, store, level);
+    let is_kept = keeps(store, &before, true);
+    drop(before);
+    match need {
+        Some(need) => is_kept && store.held().wrapping_sub(held) <= need,
+        None => false,
+    }
+}
+
+/// Swaps two places of a store of all tables, and swaps them back. Whether all is as before.
+fn there_and_back(alloc: Global, order: &Order, level: u8) -> bool {
+    let Some(mut all) = filled(alloc, order, 1000, &TABLES) else {
+        return false;
+    };
+    let is_back = comes_back(alloc, &mut all.store, level)
+        && variables(&all.store.order()) == variables(order);
+    drop(all);
+    is_back
+}
+
+/// How many swaps come out right, of each level in each order of some.
+fn each_level(alloc: Global, orders: &[Order]) -> u32 {
     let mut count = 0u32;
-    for order in &orders(alloc)? {
+    for order in orders {
         for level in 0..3u8 {
-            if there_and_back(alloc, order, level)? {
+            if there_and_back(alloc, order, level) {
                 count = count.wrapping_add(1);
             }
         }
     }
+    count
+}
+
+/// How many swaps come out right, of each level in each order of four variables.
+fn each_order(alloc: Global) -> Option<u32> {
+    let orders = orders(alloc)?;
+    let count = each_level(alloc, &orders);
+    drop(orders);
     Some(count)
 }
 
@@ -143,62 +180,85 @@ fn tried(alloc: Global, store: &mut Store, level: u8) -> Option<Result<(), SwapS
     }
 }
 
-/// Whether `try_swap` at the second place of a store of all tables comes out right, with so many free.
-fn is_right_with(alloc: Global, free: u8) -> Option<bool> {
+/// What must come of `try_swap` at the second place, with so much room: the answer and the order.
+fn wanted(there: Room) -> (Result<(), SwapStop>, Order) {
     let order = Order::natural(4);
-    let want = Room {
+    if there.free < 84 {
+        (Err(SwapStop::NoRoom(there)), order)
+    } else {
+        (Ok(()), exchanged(order, 1))
+    }
+}
+
+/// Whether `try_swap` at the second place comes out right where there is so much room.
+fn is_right_in(alloc: Global, store: &mut Store, there: Room) -> bool {
+    let Some(before) = entries(alloc, store) else {
+        return false;
+    };
+    let (answer, order) = wanted(there);
+    let short = there.free < 84;
+    let is_right = room_at(store, 1) == Some(there)
+        && tried(alloc, store, 1) == Some(answer)
+        && variables(&store.order()) == variables(&order)
+        && keeps(store, &before, short)
+        && (!short || store.held() == 46);
+    drop(before);
+    is_right
+}
+
+/// Whether `try_swap` in a store of all tables comes out right, with so many free.
+fn is_right_with(alloc: Global, free: u8) -> bool {
+    let there = Room {
         free: free as u32,
         need: 84,
     };
-    let mut store = filled(alloc, &order, 46 + free as u32, &TABLES)?.store;
-    let before = entries(alloc, &store)?;
-    let there = room_at(&store, 1)?;
-    let answer = tried(alloc, &mut store, 1)?;
-    let short = free < 84;
-    let (wanted, turned) = if short {
-        (Err(SwapStop::NoRoom(want)), order)
-    } else {
-        (Ok(()), exchanged(order, 1))
+    let Some(mut all) = filled(alloc, &Order::natural(4), 46 + free as u32, &TABLES) else {
+        return false;
     };
-    Some(
-        there == want
-            && answer == wanted
-            && variables(&store.order()) == variables(&turned)
-            && keeps(&store, &before, short)
-            && (!short || store.held() == 46),
-    )
+    let is_right = is_right_in(alloc, &mut all.store, there);
+    drop(all);
+    is_right
 }
 
 /// How many amounts of free nodes come out right, from none to those that are needed.
-fn each_room(alloc: Global) -> Option<u32> {
+fn each_room(alloc: Global) -> u32 {
     let mut count = 0u32;
     for free in 0..=84u8 {
-        if is_right_with(alloc, free)? {
+        if is_right_with(alloc, free) {
             count = count.wrapping_add(1);
         }
     }
-    Some(count)
+    count
 }
 
 // In the natural order the tables have 12, 21, 11 and 2 nodes of the four variables.
 #[test]
 fn no_room_comes_exactly_where_more_is_needed_than_free(rt: HostRuntime) {
-    assert_eq!(rt; each_room(rt.alloc()), Some(85));
+    assert_eq!(rt; each_room(rt.alloc()), 85);
 }
 
-/// A variable, and its conjunction with the one above it: the room; and once the two variables are
-/// exchanged, the upper and the lower one, how many nodes are held, and the conjunction's table.
-fn conjunction(alloc: Global) -> Option<(Room, [Option<u8>; 2], u32, Option<u16>)> {
-    let two = filled(alloc, &Order::natural(2), 64, &[0xf0f0, 0xf000])?;
-    let mut store = two.store;
-    let there = room_at(&store, 0)?;
-    if !swapped(alloc, &mut store, 0) {
+/// The room; and once two variables are exchanged, the upper and the lower one, how many nodes are held, and
+/// the table of the second node.
+type Turned = (Room, [Option<u8>; 2], u32, Option<u16>);
+
+/// Exchanges the two variables of a store.
+fn turned(alloc: Global, two: &mut Tabled) -> Option<Turned> {
+    let there = room_at(&two.store, 0)?;
+    let both = *two.nodes.get(1)?;
+    if !swapped(alloc, &mut two.store, 0) {
         return None;
     }
-    let both = *two.nodes.get(1)?;
-    let order = store.order();
+    let order = two.store.order();
     let turned = [variable(&order, 0), variable(&order, 1)];
-    Some((there, turned, store.held(), table_of(&store, both)))
+    Some((there, turned, two.store.held(), table_of(&two.store, both)))
+}
+
+/// A variable, and its conjunction with the one above it, whose variables are exchanged.
+fn conjunction(alloc: Global) -> Option<Turned> {
+    let mut two = filled(alloc, &Order::natural(2), 64, &[0xf0f0, 0xf000])?;
+    let turned = turned(alloc, &mut two);
+    drop(two);
+    turned
 }
 
 // Held are the second variable's node, and a node of the first variable above it.

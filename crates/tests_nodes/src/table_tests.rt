@@ -1,5 +1,4 @@
 //! A table that is filled, emptied in part, made anew and filled again.
-use std::alloc::Global;
 use tables::NodeTable;
 
 /// How many nodes the test makes.
@@ -74,19 +73,21 @@ fn stays_thin(table: &mut NodeTable) -> bool {
     }
 }
 
-/// The lengths of a table that is full, thin and full again, and what it lists where it is thin.
-fn lengths(alloc: Global) -> Option<(usize, usize, usize, (usize, u64))> {
-    let mut table = NodeTable::new(alloc);
-    let first = filled(&mut table, true);
+/// The lengths of a table that is full, thin and full again, and how many nodes it lists where it is thin, and
+/// their sum.
+type Lengths = (usize, usize, usize, (usize, u64));
+
+/// Fills an empty table, thins it, and fills it again.
+fn refilled(table: &mut NodeTable) -> Option<Lengths> {
+    let is_first = filled(table, true);
     let full = table.len();
-    thinned(&mut table);
+    thinned(table);
     let thin = table.len();
-    let nodes = if first && stays_thin(&mut table) {
-        listed(&table)?
-    } else {
+    if !is_first || !stays_thin(table) {
         return None;
-    };
-    if filled(&mut table, false) {
+    }
+    let nodes = listed(table)?;
+    if filled(table, false) {
         Some((full, thin, table.len(), nodes))
     } else {
         None
@@ -95,6 +96,7 @@ fn lengths(alloc: Global) -> Option<(usize, usize, usize, (usize, u64))> {
 
 #[test]
 fn nodes_are_taken_away_and_added_again(rt: HostRuntime) {
+    let mut table = NodeTable::new(rt.alloc());
     let want = Some((3000, 2000, 3000, (2000, 3_004_000)));
-    assert!(rt; lengths(rt.alloc()) == want);
+    assert!(rt; refilled(&mut table) == want);
 }

@@ -211,21 +211,35 @@ pub struct Tabled {
     pub nodes: Vec<Node>,
 }
 
+/// Adds the nodes of tables. Whether each has its table once it is made.
+fn is_filled(tabled: &mut Tabled, tables: &[u16]) -> bool {
+    for table in tables {
+        let Ok(n) = table_node(&mut tabled.store, *table) else {
+            return false;
+        };
+        if table_of(&tabled.store, n) != Some(*table) || tabled.nodes.push(n).is_err() {
+            return false;
+        }
+    }
+    true
+}
+
 /// A store that holds the nodes of tables, each read back once it is made.
 pub fn filled(alloc: Global, order: &Order, limit: u32, tables: &[u16]) -> Option<Tabled> {
     if limit < 1 || limit > 1000 {
         return None;
     }
-    let mut store = Store::with_order(alloc, order, limit).ok()?;
-    let mut nodes = Vec::new(alloc);
-    for table in tables {
-        let n = table_node(&mut store, *table).ok()?;
-        if table_of(&store, n) != Some(*table) {
-            return None;
-        }
-        nodes.push(n).ok()?;
+    let store = Store::with_order(alloc, order, limit).ok()?;
+    let mut tabled = Tabled {
+        store,
+        nodes: Vec::new(alloc),
+    };
+    if is_filled(&mut tabled, tables) {
+        Some(tabled)
+    } else {
+        drop(tabled);
+        None
     }
-    Some(Tabled { store, nodes })
 }
 
 /// The bits of at most four variables that an index of a table has.
@@ -283,12 +297,33 @@ pub fn asked(store: &Store, f: Node, g: Node, var: u8, bit: Option<bool>) -> Opt
     Some((any, differ))
 }
 
-/// Diagrams over a store.
-pub fn over(alloc: Global, store: Store) -> Option<Diagrams> {
-    let mut d = Diagrams::new(alloc, 4, 1000, 16).ok()?;
+/// Diagrams with the nodes of tables.
+#[derive(Drop)]
+pub struct Held {
+    pub diagrams: Diagrams,
+    pub nodes: Vec<Node>,
+}
+
+/// Puts a store in the place of another one.
+fn put(d: &mut Diagrams, store: Store) {
     d.forget();
-    let _empty = mem::replace(d.lend(), store);
-    Some(d)
+    let old = mem::replace(d.lend(), store);
+    drop(old);
+}
+
+/// Diagrams over a store that holds the nodes of tables.
+pub fn diagrams_with(alloc: Global, order: &Order, limit: u32, tables: &[u16]) -> Option<Held> {
+    let mut diagrams = Diagrams::new(alloc, 4, 1000, 16).ok()?;
+    match filled(alloc, order, limit, tables) {
+        Some(Tabled { store, nodes }) => {
+            put(&mut diagrams, store);
+            Some(Held { diagrams, nodes })
+        }
+        None => {
+            drop(diagrams);
+            None
+        }
+    }
 }
 
 /// A variable as a node.
