@@ -6,6 +6,3 @@ mod message;
 
 pub use cause::{Cause, Ended};
 pub use message::{end, lines_of};
-
-#[cfg(test)]
-mod tests;

@@ -6,6 +6,3 @@ mod laws;
 
 pub use demo::demo_circuit;
 pub use laws::{demo_texts_are_never_refused, demo_texts_are_short, demo_texts_read};
-
-#[cfg(test)]
-mod tests;

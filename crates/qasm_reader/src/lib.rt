@@ -17,6 +17,3 @@ mod targets;
 pub use laws::{every_text_reads, one_reading, texts_read_as_circuits};
 pub use reader::read;
 pub use reason::{ReadStop, Refusal, Why};
-
-#[cfg(test)]
-mod tests;
