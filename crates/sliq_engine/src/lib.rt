@@ -13,16 +13,3 @@ mod top;
 
 pub use causes::{Cause, Ended, end};
 pub use top::run;
-
-#[cfg(test)]
-mod demo_tests;
-#[cfg(test)]
-mod end_tests;
-#[cfg(test)]
-mod eq_tests;
-#[cfg(test)]
-mod prob_tests;
-#[cfg(test)]
-mod runs;
-#[cfg(test)]
-mod sim_tests;
