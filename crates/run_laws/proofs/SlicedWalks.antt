@@ -1,5 +1,5 @@
 -- Gates in a row on integers over diagrams come to one end, and to some end. This file alone knows when such a gate may be refused or accepted.
-use Rattle.std.proofs.Common.{◌⊎◌, ℕ, inl, inr, ◌≤◌, ◌+◌, ◌-◌, List, [], ◌∷◌, Bool, Ok, Err, All, length, refl, arith}
+use Rattle.std.proofs.Common.{◌≡◌, ◌⊎◌, ℕ, inl, inr, ◌≤◌, ◌+◌, ◌-◌, List, [], ◌∷◌, Bool, Ok, Err, All, length, refl, arith}
 use Rattle.bit_lists.specs.Orders.{IsOrder}
 use Rattle.bit_lists.proofs.Variables.{natural_is_order}
 use Rattle.gate_set.specs.declared.gate.Gate.{Gate}
