@@ -11,18 +11,3 @@ mod weighing;
 pub use events::{Event, EventStop, Report};
 pub use laws::{each_gate_has_an_end, enough_nodes, upkeep_keeps_entries};
 pub use sliced::SlicedState;
-
-#[cfg(test)]
-mod event_tests;
-#[cfg(test)]
-mod limit_tests;
-#[cfg(test)]
-mod long_tests;
-#[cfg(test)]
-mod sift_tests;
-#[cfg(test)]
-mod tests;
-#[cfg(test)]
-mod walk_tests;
-#[cfg(test)]
-mod weighing_tests;
