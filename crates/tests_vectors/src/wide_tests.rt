@@ -43,6 +43,17 @@ fn vector_of(d: &Diagrams, four: Four) -> Option<SliceQuad>
     None
 }
 
+/// The weight of all states over one variable.
+fn weight_of_all(alloc: Global, d: &Diagrams, q: &SliceQuad) -> Option<Result<Weight, WeighStop>>
+    requires { Stands d.now.store q.now }
+{
+    let order = d.store().order();
+    if order.len() != 1 {
+        return None;
+    }
+    Some(weigh(alloc, d, q, &Partial::free(order.len())))
+}
+
 /// The weight of the two states, where the first coordinate is the same at both, and the others are 0 at the first one.
 fn weight_of_both(alloc: Global, numbers: [u64; 4]) -> Option<Result<Weight, WeighStop>> {
     let mut d = Diagrams::new(alloc, 1, 16, 16).ok()?;
@@ -54,7 +65,7 @@ fn weight_of_both(alloc: Global, numbers: [u64; 4]) -> Option<Result<Weight, Wei
         d: number_at(alloc, numbers[3], n)?,
     };
     let q = vector_of(&d, four)?;
-    Some(weigh(alloc, &d, &q, &Partial::free(1)))
+    weight_of_all(alloc, &d, &q)
 }
 
 // The squares of the coordinates at both states, added up, are 2^127 - 1 and 2^127.
