@@ -10,6 +10,3 @@ mod stepping;
 pub use side::Side;
 pub use step::step_of;
 pub use stepping::gate_step;
-
-#[cfg(test)]
-mod tests;

@@ -38,6 +38,3 @@ pub use stepping::step;
 pub use stop::QuadStop;
 pub use unit_matrix::identity;
 pub use walk::next_nonzero;
-
-#[cfg(test)]
-mod tests;

@@ -27,6 +27,3 @@ pub use reading::value_at;
 pub use shape::{fits, trim, zero};
 pub use slices::Slices;
 pub use sum::add;
-
-#[cfg(test)]
-mod tests;

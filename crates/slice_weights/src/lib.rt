@@ -6,28 +6,18 @@
 
 mod asking;
 mod counting;
-#[cfg(test)]
-mod counting_tests;
 mod descent;
 mod further;
 mod integer;
 mod on_top;
 mod outcome;
 mod outcome_walk;
-#[cfg(test)]
-mod outcome_walk_tests;
 mod path;
 mod places;
 mod summing;
-#[cfg(test)]
-mod tests;
 mod tuple;
 mod walk;
-#[cfg(test)]
-mod walk_tests;
 mod weighing;
-#[cfg(test)]
-mod wide_tests;
 
 pub use counting::count_nonzero;
 pub use outcome::next_outcome;

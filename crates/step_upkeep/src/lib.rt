@@ -8,6 +8,3 @@ mod upkeep;
 pub use gate::upkept_gate;
 pub use stepping::upkept_step;
 pub use upkeep::{Schedule, is_due, keep_up, reclaim_to, sift_to};
-
-#[cfg(test)]
-mod tests;

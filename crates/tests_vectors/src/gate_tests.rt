@@ -1,0 +1,62 @@
+//! The steps of some gates, and one gate on a state.
+
+use crate::tools::{begun, entry_at, quad};
+use bit_lists::Bits;
+use gate_set::{Entry, Gate, Kind};
+use slice_gates::{Side, gate_step, step_of};
+use slice_quad::{Step, exponent};
+
+/// A step by what can be compared: the place of its controls and how many bits they have; its target and half, or the variables that it exchanges;
+/// and its rows, if it has a matrix.
+fn seen(s: &Step) -> ((u128, u8), (u8, u8), Option<[[Entry; 2]; 2]>) {
+    match s {
+        Step::Mix {
+            controls,
+            target,
+            rows,
+            half,
+        } => (
+            (controls.place(), controls.len()),
+            (*target, *half),
+            Some(*rows),
+        ),
+        Step::Exchange {
+            controls,
+            first,
+            second,
+        } => ((controls.place(), controls.len()), (*first, *second), None),
+    }
+}
+
+#[test]
+fn steps_of_gates(rt: HostRuntime) {
+    let alloc = rt.alloc();
+    let zero = Entry::Zero;
+    let one = Entry::Omega(0);
+    let cx = step_of(&Gate::new(alloc, Kind::Cx, &[2, 0]), Side::State, 3);
+    let flip = [[zero, one], [one, zero]];
+    assert_eq!(rt; seen(&cx), ((0b001, 3), (0, 0), Some(flip)));
+    let y = step_of(&Gate::new(alloc, Kind::Y, &[1]), Side::Columns, 4);
+    let transposed = [[zero, Entry::Omega(2)], [Entry::Omega(6), zero]];
+    assert_eq!(rt; seen(&y), ((0, 4), (3, 0), Some(transposed)));
+    let cswap = step_of(&Gate::new(alloc, Kind::Cswap, &[1, 2, 0]), Side::Rows, 6);
+    assert_eq!(rt; seen(&cswap), ((0b001000, 6), (4, 0), None));
+}
+
+#[test]
+fn a_gate_on_a_state(rt: HostRuntime) {
+    let alloc = rt.alloc();
+    let (mut d, mut q) = begun(&rt, alloc, &Bits::zeros(1), 64, 16);
+    let gate = Gate::new(alloc, Kind::H, &[0]);
+    assert!(rt; exponent(&q) < 1000);
+    let done = gate_step(&mut d, &mut q, &gate, 2).is_ok();
+    assert_eq!(rt;
+        (
+            done,
+            entry_at(&d, &q, b"0"),
+            entry_at(&d, &q, b"1"),
+            exponent(&q)
+        ),
+        (true, quad(0, 0, 0, 1), quad(0, 0, 0, 1), 1)
+    );
+}
