@@ -12,6 +12,3 @@ pub use amp_printer::Verdict;
 pub use comparing::compare;
 pub use laws::enough_nodes;
 pub use verdict::scalar_of;
-
-#[cfg(test)]
-mod tests;

@@ -10,6 +10,3 @@ mod weaving;
 pub use accepted::MatrixStep;
 pub use laws::{each_step_has_an_end, enough_nodes};
 pub use matrix::SlicedMatrix;
-
-#[cfg(test)]
-mod tests;

@@ -1,5 +1,5 @@
 use Rattle.std.proofs.Common.{◌≡◌}
-use Rattle.equivalence.proofs.tests.all_turned_first.Given as goal
+use Rattle.tests_matrices.proofs.equivalence_tests.all_turned_first.Given as goal
 
 -- the circuit keeps its number of qubits
 abbrev pub invariant-turns : goal.invariant-turns

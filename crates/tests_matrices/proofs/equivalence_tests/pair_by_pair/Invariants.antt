@@ -1,5 +1,5 @@
 use Rattle.std.proofs.Common.{◌≡◌}
-use Rattle.equivalence.proofs.tests.pair_by_pair.Given as goal
+use Rattle.tests_matrices.proofs.equivalence_tests.pair_by_pair.Given as goal
 
 -- the circuit keeps its number of qubits
 abbrev pub invariant-pairs : goal.invariant-pairs

@@ -1,5 +1,5 @@
 use Rattle.std.proofs.Common.{◌≡◌}
-use Rattle.equivalence.proofs.tests.drawn_circuit.Given as goal
+use Rattle.tests_matrices.proofs.equivalence_tests.drawn_circuit.Given as goal
 
 -- the circuit keeps its number of qubits
 abbrev pub invariant-gates : goal.invariant-gates

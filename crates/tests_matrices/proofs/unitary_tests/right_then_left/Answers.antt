@@ -1,6 +1,6 @@
 use Rattle.std.proofs.Common.{ℕ, sym, ◌∙◌, subst}
 use Rattle.gate_set.specs.Shape.{IsOn}
-use Rattle.unitary_update.proofs.tests.right_then_left.Goals as goal
+use Rattle.tests_matrices.proofs.unitary_tests.right_then_left.Goals as goal
 
 pub right-requires : goal.right-requires
 right-requires g c = subst (λ (n : ℕ). IsOn n c.args.one.now) (sym c.fresh-m.ensures) c.requires.one

@@ -1,36 +1,16 @@
 //! Matrices of all kinds of gates from both sides, the order of products, and the limit of the identity and of a step.
 ghost use Rattle.std.specs.Prelude.{◌≡◌, ◌≤◌, ◌<◌, ℕ, length};
-ghost use Rattle.gate_set.specs.Matrix.{arity_of};
+ghost use Rattle.gate_set.specs.Matrix.{arity_of, IsKind};
 ghost use Rattle.gate_set.specs.Shape.{IsOn};
 
-use crate::SlicedMatrix;
+use crate::tools::kind_of;
 use amp_dense::{Rules, Stop};
 use bit_lists::Bits;
 use gate_set::{Entry, Gate, Kind};
 use ring_omega::Quad;
 use std::alloc::Global;
 use std::process::Abort;
-
-const KINDS: [Kind; 18] = [
-    Kind::H,
-    Kind::T,
-    Kind::RxP,
-    Kind::Cx,
-    Kind::RyM,
-    Kind::Tdg,
-    Kind::Cswap,
-    Kind::S,
-    Kind::Y,
-    Kind::Swap,
-    Kind::RxM,
-    Kind::Cz,
-    Kind::Sdg,
-    Kind::Ccx,
-    Kind::RyP,
-    Kind::X,
-    Kind::Z,
-    Kind::Id,
-];
+use unitary_update::SlicedMatrix;
 
 /// Rules with so many nodes.
 fn with_nodes(nodes: u32) -> Rules
@@ -70,6 +50,7 @@ fn fresh(rt: &impl Abort, alloc: Global, qubits: u8) -> SlicedMatrix
 
 /// A gate on one of so many qubits.
 fn single(alloc: Global, kind: Kind, q: u8, qubits: u8) -> Gate
+    requires power { IsKind kind }
     requires one { arity_of kind ≡ 1 }
     requires within { q < qubits }
     requires few { qubits ≤ 64 }
@@ -80,6 +61,7 @@ fn single(alloc: Global, kind: Kind, q: u8, qubits: u8) -> Gate
 
 /// A gate on qubits 2, 0 and 1 of three, or on the first of them.
 fn placed(alloc: Global, kind: Kind) -> Gate
+    requires { IsKind kind }
     ensures on { IsOn 3 result }
     ensures kind { result.kind ≡ kind }
 {
@@ -213,9 +195,15 @@ fn table_entry(gate: &Gate, row: u8, column: u8) -> Quad {
     if row >= gate.side() || column >= gate.side() {
         return Quad::ZERO;
     }
-    match gate.entry(row, column) {
+    match gate.block_entry(row, column) {
         Entry::Zero => Quad::ZERO,
         Entry::Omega(power) => omega(power),
+        Entry::Root2 => Quad {
+            a: -1,
+            b: 0,
+            c: 1,
+            d: 0,
+        },
     }
 }
 
@@ -251,8 +239,8 @@ fn expect_gate(rt: &impl Abort, m: &SlicedMatrix, gate: &Gate)
 #[test]
 fn all_kinds_from_both_sides(rt: HostRuntime) {
     let alloc = rt.alloc();
-    for kind in KINDS {
-        let gate = placed(alloc, kind);
+    for number in 0..22u32 {
+        let gate = placed(alloc, kind_of(number));
         let mut m = fresh(&rt, alloc, 3);
         left(&rt, alloc, &mut m, &gate);
         expect_gate(&rt, &m, &gate);

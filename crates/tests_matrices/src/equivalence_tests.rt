@@ -1,41 +1,17 @@
 //! Verdicts over diagrams against those over lists of all entries, with and without sifts, and a gate planted in a circuit of 20 qubits.
 ghost use Rattle.std.specs.Prelude.{◌≡◌, ◌≤◌, ◌<◌, IfOk};
-ghost use Rattle.gate_set.specs.Matrix.{arity_of};
+ghost use Rattle.gate_set.specs.Matrix.{arity_of, IsKind};
 ghost use Rattle.gate_set.specs.Shape.{IsOn};
 
-use crate::compare;
+use crate::tools::kind_of;
 use amp_dense::Rules;
 use amp_printer::Verdict;
 use bit_lists::{Bits, OutOfMemory};
+use equivalence::compare;
 use gate_set::{Circuit, Gate, Kind};
 use ring_omega::Quad;
 use std::alloc::Global;
 use std::test::Fail;
-
-const KINDS: [Kind; 22] = [
-    Kind::H,
-    Kind::T,
-    Kind::RxP,
-    Kind::Cx,
-    Kind::RyM,
-    Kind::Tdg,
-    Kind::Cswap,
-    Kind::S,
-    Kind::Y,
-    Kind::Swap,
-    Kind::RxM,
-    Kind::Cz,
-    Kind::Sdg,
-    Kind::Ccx,
-    Kind::RyP,
-    Kind::X,
-    Kind::Z,
-    Kind::Id,
-    Kind::Phase(1),
-    Kind::Phase(3),
-    Kind::Phase(6),
-    Kind::Phase(0),
-];
 
 /// A number drawn by a linear congruential generator.
 fn drawn(seed: &mut u32, below: u32) -> u32
@@ -48,6 +24,7 @@ fn drawn(seed: &mut u32, below: u32) -> u32
 
 /// A gate of this kind on qubit `first` of three, or on it and the ones after it in turn; from 3 on, with others as further controls.
 fn gate_on(alloc: Global, kind: Kind, first: u32) -> Gate
+    requires { IsKind kind }
     ensures { IsOn 3 result }
 {
     match kind.arity() {
@@ -58,7 +35,8 @@ fn gate_on(alloc: Global, kind: Kind, first: u32) -> Gate
 }
 
 fn on_one(alloc: Global, kind: Kind, first: u32) -> Gate
-    requires { arity_of kind ≡ 1 }
+    requires power { IsKind kind }
+    requires arity { arity_of kind ≡ 1 }
     ensures { IsOn 3 result }
 {
     match first {
@@ -72,7 +50,8 @@ fn on_one(alloc: Global, kind: Kind, first: u32) -> Gate
 }
 
 fn on_two(alloc: Global, kind: Kind, first: u32) -> Gate
-    requires { arity_of kind ≡ 2 }
+    requires power { IsKind kind }
+    requires arity { arity_of kind ≡ 2 }
     ensures { IsOn 3 result }
 {
     match first {
@@ -86,7 +65,8 @@ fn on_two(alloc: Global, kind: Kind, first: u32) -> Gate
 }
 
 fn on_three(alloc: Global, kind: Kind, first: u32) -> Gate
-    requires { arity_of kind ≡ 3 }
+    requires power { IsKind kind }
+    requires arity { arity_of kind ≡ 3 }
     ensures { IsOn 3 result }
 {
     match first {
@@ -113,7 +93,7 @@ fn drawn_circuit(alloc: Global, mut seed: u32, gates: u32) -> Result<Circuit, Ou
 {
     let mut circuit = Circuit::new(alloc, 3)?;
     'gates: for _ in 0..gates {
-        let kind = KINDS[drawn(&mut seed, 22) as usize];
+        let kind = kind_of(drawn(&mut seed, 22));
         let gate = gate_on(alloc, kind, drawn(&mut seed, 6));
         add(&mut circuit, gate)?;
     }
