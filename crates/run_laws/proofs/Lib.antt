@@ -14,3 +14,4 @@ mod EnoughNodes
 mod Completeness
 mod FewNodes
 mod TextLemmas
+mod CalmRuns
