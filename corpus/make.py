@@ -465,12 +465,11 @@ def random_circuits():
             text.put(name, *chosen)
         text.write("random/random_%d" % qubits)
 
+    gates = drawn(6, 6, 120)
+    at = next(place for place in range(60, 120) if gates[place][0] == "t")
     for wrong in (False, True):
-        comment = "The circuit random_6 with each gate rewritten by others%s." % (", and one wrong: of the 60th gate, a t, only s is left" if wrong else "")
-        gates = drawn(6, 6, 120)
-        at = next(place for place in range(59, 120) if gates[place][0] == "t")
-        comment = comment.replace("60th", "%dth" % (at + 1))
-        text = Text([comment], "qreg q[6];", wide=10)
+        ending = ", and one wrong: of gate %d, a t, only s is left" % (at + 1) if wrong else ""
+        text = Text(["The circuit random_6 with each gate rewritten by others%s." % ending], "qreg q[6];", wide=10)
         for place, (name, chosen) in enumerate(gates):
             if wrong and place == at:
                 text.put("s", *chosen)

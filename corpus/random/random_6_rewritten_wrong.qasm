@@ -1,4 +1,4 @@
-// The circuit random_6 with each gate rewritten by others, and one wrong: of the 63th gate, a t, only s is left.
+// The circuit random_6 with each gate rewritten by others, and one wrong: of gate 63, a t, only s is left.
 OPENQASM 2.0;
 include "qelib1.inc";
 qreg q[6];
