@@ -247,50 +247,54 @@ def adders():
         text.write("arithmetic/adder_ripple_%d_t%s" % (bits, "_wrong" if wrong else ""))
 
 
-def multiply(text, a, b, p, skip=None):
-    """p becomes p + a*b: each pair of bits that are 1 increments p from its place on. Lowest bit first."""
+def multiply(text, a, b, p, product, skip=None):
+    """p becomes p + a*b: the product of each pair of bits is put on a fresh qubit, and increments p from its place on. Lowest bit first."""
     for i, one in enumerate(a):
         for j, two in enumerate(b):
+            text.put("ccx", one, two, product)
             for top in range(len(p) - 1, i + j - 1, -1):
                 lower = p[i + j : top]
                 if (i, j, top) != skip:
-                    text.put(under(2 + len(lower), "x"), one, two, *reversed(lower), p[top])
+                    text.put(under(1 + len(lower), "x"), product, *reversed(lower), p[top])
+            text.put("ccx", one, two, product)
             text.close()
 
 
 def multipliers():
-    a, b, p = range(0, 4), range(4, 8), range(8, 16)
-    plain = ["p becomes p + a*b mod 256 for a and b of four bits: each pair of bits that are both 1 increments p from its place on.", "a is q[0] to q[3], b is q[4] to q[7], p is q[8] to q[15], lowest bit first."]
-    text = Text(plain, "qreg q[16];")
-    multiply(text, a, b, p)
+    a, b, p, product = range(0, 4), range(4, 8), range(8, 16), 16
+    what = "p becomes p + a*b mod 256 for a and b of four bits: the product of each pair of bits increments p from its place on."
+    where = "a is q[0] to q[3], b is q[4] to q[7], p is q[8] to q[15], lowest bit first; q[16] is fresh, and holds one product after the other."
+    text = Text([what, where], "qreg q[17];")
+    multiply(text, a, b, p, product)
     text.write("arithmetic/multiplier_4x4")
     for one, two, before in ((13, 11, 0), (15, 15, 0), (9, 14, 200)):
         after = (before + one * two) % 256
-        listing("arithmetic/multiplier_4x4.%dx%d+%d" % (one, two, before), {bits_of(one, 4) + bits_of(two, 4) + bits_of(after, 8): 1}, 0)
+        listing("arithmetic/multiplier_4x4.%dx%d+%d" % (one, two, before), {bits_of(one, 4) + bits_of(two, 4) + bits_of(after, 8) + "0": 1}, 0)
 
-    text = Text(["p becomes p + b*a mod 256: the multiplier of four bits with a and b in each other's part.", plain[1]], "qreg q[16];")
-    multiply(text, b, a, p)
+    text = Text(["p becomes p + b*a mod 256: the multiplier of four bits with a and b in each other's part.", where], "qreg q[17];")
+    multiply(text, b, a, p, product)
     text.write("arithmetic/multiplier_4x4_exchanged")
 
-    text = Text([plain[0], "On even mixtures of all a and b: the listing is the multiplication table.", plain[1]], "qreg q[16];")
+    text = Text([what, "On even mixtures of all a and b: the listing is the multiplication table.", where], "qreg q[17];")
     for place in [*a, *b]:
         text.put("h", place)
     text.close()
-    multiply(text, a, b, p)
+    multiply(text, a, b, p, product)
     text.write("arithmetic/multiplier_4x4_table")
-    table = {bits_of(one, 4) + bits_of(two, 4) + bits_of(one * two, 8): 1 for one in range(16) for two in range(16)}
+    table = {bits_of(one, 4) + bits_of(two, 4) + bits_of(one * two, 8) + "0": 1 for one in range(16) for two in range(16)}
     listing("arithmetic/multiplier_4x4_table", table, 8)
 
-    a, b, p = range(0, 3), range(3, 6), range(6, 12)
-    where = "a is q[0] to q[2], b is q[3] to q[5], p is q[6] to q[11], lowest bit first."
-    text = Text(["p becomes p + a*b mod 64 for a and b of three bits: each pair of bits that are both 1 increments p from its place on.", where], "qreg q[12];")
-    multiply(text, a, b, p)
+    a, b, p, product = range(0, 3), range(3, 6), range(6, 12), 12
+    what = "p becomes p + a*b mod 64 for a and b of three bits: the product of each pair of bits increments p from its place on."
+    where = "a is q[0] to q[2], b is q[3] to q[5], p is q[6] to q[11], lowest bit first; q[12] is fresh, and holds one product after the other."
+    text = Text([what, where], "qreg q[13];")
+    multiply(text, a, b, p, product)
     text.write("arithmetic/multiplier_3x3")
-    text = Text(["p becomes p + b*a mod 64: the multiplier of three bits with a and b in each other's part. The product is the same, and the gates come in another order.", where], "qreg q[12];")
-    multiply(text, b, a, p)
+    text = Text(["p becomes p + b*a mod 64: the multiplier of three bits with a and b in each other's part. The product is the same, and the gates come in another order.", where], "qreg q[13];")
+    multiply(text, b, a, p, product)
     text.write("arithmetic/multiplier_3x3_exchanged")
-    text = Text(["p becomes p + a*b mod 64, with one gate missing: the carry of a[1]*b[1] from the second place of p into its fourth.", where], "qreg q[12];")
-    multiply(text, a, b, p, skip=(1, 1, 3))
+    text = Text(["p becomes p + a*b mod 64, with one gate missing: the carry of a[1]*b[1] from the third place of p into its fourth.", where], "qreg q[13];")
+    multiply(text, a, b, p, product, skip=(1, 1, 3))
     text.write("arithmetic/multiplier_3x3_wrong")
 
 
@@ -299,25 +303,12 @@ def multipliers():
 
 def fanouts():
     text = Text(["A bit is added to 63 others."], "qreg q[1];", "qreg r[63];")
-    text.close("cx q,r;")
+    text.close("cx q[0],r;")
     text.write("rewrites/fanout_64")
     text = Text(["A bit is added to 63 others by cx of neighbours alone: as fanout_8_ladder."], "qreg q[64];", wide=12)
     for place in [*range(62, 0, -1), *range(63)]:
         text.put("cx", place, place + 1)
     text.write("rewrites/fanout_64_ladder")
-
-
-def reversals():
-    text = Text(["64 qubits in the opposite order."], "qreg q[64];", wide=8)
-    for place in range(32):
-        text.put("swap", place, 63 - place)
-    text.write("rewrites/reverse_64")
-    text = Text(["64 qubits in the opposite order by swaps of neighbours: 64 rounds, even pairs and odd pairs in turn, 2016 swaps."], "qreg q[64];", wide=16)
-    for number in range(64):
-        for place in range(number % 2, 63, 2):
-            text.put("swap", place, place + 1)
-        text.close()
-    text.write("rewrites/reverse_64_neighbours")
 
 
 def w_state():
@@ -500,7 +491,6 @@ def main():
     adders()
     multipliers()
     fanouts()
-    reversals()
     w_state()
     bell_pairs()
     five_qubit_code()

@@ -7,11 +7,11 @@ qreg coin[1];
 creg c[3];
 h coin;
 // up where the coin is 0, down where it is 1: the bits are turned for the way down
-cx coin,place; ccx place[2],place[1],place[0]; cx place[2],place[1]; x place[2]; cx coin,place;
+cx coin[0],place; ccx place[2],place[1],place[0]; cx place[2],place[1]; x place[2]; cx coin[0],place;
 h coin;
-cx coin,place; ccx place[2],place[1],place[0]; cx place[2],place[1]; x place[2]; cx coin,place;
+cx coin[0],place; ccx place[2],place[1],place[0]; cx place[2],place[1]; x place[2]; cx coin[0],place;
 h coin;
-cx coin,place; ccx place[2],place[1],place[0]; cx place[2],place[1]; x place[2]; cx coin,place;
+cx coin[0],place; ccx place[2],place[1],place[0]; cx place[2],place[1]; x place[2]; cx coin[0],place;
 h coin;
-cx coin,place; ccx place[2],place[1],place[0]; cx place[2],place[1]; x place[2]; cx coin,place;
+cx coin[0],place; ccx place[2],place[1],place[0]; cx place[2],place[1]; x place[2]; cx coin[0],place;
 measure place -> c;

@@ -3,4 +3,4 @@ OPENQASM 2.0;
 include "qelib1.inc";
 qreg q[1];
 qreg r[7];
-cx q,r;
+cx q[0],r;

@@ -4,5 +4,5 @@ include "qelib1.inc";
 qreg q[1];
 qreg r[7];
 h q; h r;
-cx r,q;
+cx r,q[0];
 h q; h r;

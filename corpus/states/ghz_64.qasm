@@ -4,4 +4,4 @@ include "qelib1.inc";
 qreg q[1];
 qreg r[63];
 h q;
-cx q,r;
+cx q[0],r;
