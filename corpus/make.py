@@ -5,6 +5,7 @@
 
 All other files are written by hand. What is written here is the same each time; nothing is taken from sliq.
 """
+from math import comb
 from pathlib import Path
 
 HERE = Path(__file__).resolve().parent
@@ -247,6 +248,69 @@ def adders():
         text.write("arithmetic/adder_ripple_%d_t%s" % (bits, "_wrong" if wrong else ""))
 
 
+def carry():
+    text = Text(
+        [
+            "Cuccaro's adder of 31 bits on even mixtures of all a and b, 2^62 states, with its carry measured: a + b has 32 bits for 2^30*(2^31 - 1) of the 2^62 pairs,",
+            "so it shows 1 with probability (2^31 - 1)/2^32.",
+        ],
+        "qreg q[64];",
+        "creg c[1];",
+        wide=12,
+    )
+    for place in range(1, 63):
+        text.put("h", place)
+    text.close()
+    ripple(text, 31, lambda *qubits: text.put("ccx", *qubits))
+    text.close("measure q[63] -> c[0];")
+    text.write("arithmetic/adder_ripple_31_carry")
+    outcomes("arithmetic/adder_ripple_31_carry", {"0": "(%d,0)/2^32" % (2**31 + 1), "1": "(%d,0)/2^32" % (2**31 - 1)})
+
+
+def counted(text, places, number):
+    """Each bit of q that is 1 increments the number, highest bit first."""
+    for place in range(places):
+        for at in range(len(number)):
+            lower = number[at + 1 :]
+            text.put(under(1 + len(lower), "x"), place, *reversed(lower), number[at])
+        text.close()
+    text.close("measure w -> c;")
+
+
+def lowest_weight(whole, root, power):
+    while power and whole % 2 == 0 and root % 2 == 0:
+        whole, root, power = whole // 2, root // 2, power - 1
+    return "(%d,%d)/2^%d" % (whole, root, power)
+
+
+def weights():
+    text = Text(["How many of 58 bits are 1, on even mixtures of all of them, 2^58 states: k ones come with the binomial coefficient of 58 over k, of 2^58."], "qreg q[58];", "qreg w[6];", "creg c[6];")
+    text.close("h q;")
+    counted(text, 58, ["w[%d]" % at for at in range(6)])
+    text.write("arithmetic/weight_58")
+    outcomes("arithmetic/weight_58", {format(k, "06b"): lowest_weight(comb(58, k), 0, 58) for k in range(59)})
+
+    text = Text(
+        [
+            "How many of 15 biased coins h t h show 1. A coin does so with (2-sqrt(2))/4, so k ones come with the binomial coefficient of 15 over k times",
+            "(2-sqrt(2))^k * (2+sqrt(2))^(15-k) of 4^15.",
+        ],
+        "qreg q[15];",
+        "qreg w[4];",
+        "creg c[4];",
+    )
+    text.close("h q; t q; h q;")
+    counted(text, 15, ["w[%d]" % at for at in range(4)])
+    text.write("arithmetic/biased_coins_15")
+    powers = {}
+    for k in range(16):
+        whole, root = comb(15, k), 0
+        for sign in [-1] * k + [1] * (15 - k):
+            whole, root = 2 * whole + 2 * sign * root, sign * whole + 2 * root
+        powers[format(k, "04b")] = lowest_weight(whole, root, 30)
+    outcomes("arithmetic/biased_coins_15", powers)
+
+
 def multiply(text, a, b, p, product, skip=None):
     """p becomes p + a*b: the product of each pair of bits is put on a fresh qubit, and increments p from its place on. Lowest bit first."""
     for i, one in enumerate(a):
@@ -487,8 +551,11 @@ def main():
     hidden_shift("algorithms/hidden_shift_12_t", "101101110001", by_t=True)
     hidden_shift("algorithms/hidden_shift_20", "11010001101011110010")
     hidden_shift("algorithms/hidden_shift_40", "1100101011110001011010011100100001011101")
+    hidden_shift("algorithms/hidden_shift_64", "1001110101100010110111101000110101011001110000101101001011100110")
     wire()
     adders()
+    carry()
+    weights()
     multipliers()
     fanouts()
     w_state()
