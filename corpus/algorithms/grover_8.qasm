@@ -1,0 +1,30 @@
+// Grover's search for 10110001 among 256, 12 steps. With N = 256 a step takes the amplitudes (found, other), up to a sign, to
+// ((1-2/N)f + (2-2/N)o, (1-2/N)o - (2/N)f), from (1, 1)/sqrt(N); so all others have the same one.
+OPENQASM 2.0;
+include "qelib1.inc";
+qreg q[8];
+h q;
+x q[1]; x q[4]; x q[5]; x q[6]; cccccccz q[0],q[1],q[2],q[3],q[4],q[5],q[6],q[7]; x q[1]; x q[4]; x q[5]; x q[6];
+h q; x q; cccccccz q[0],q[1],q[2],q[3],q[4],q[5],q[6],q[7]; x q; h q;
+x q[1]; x q[4]; x q[5]; x q[6]; cccccccz q[0],q[1],q[2],q[3],q[4],q[5],q[6],q[7]; x q[1]; x q[4]; x q[5]; x q[6];
+h q; x q; cccccccz q[0],q[1],q[2],q[3],q[4],q[5],q[6],q[7]; x q; h q;
+x q[1]; x q[4]; x q[5]; x q[6]; cccccccz q[0],q[1],q[2],q[3],q[4],q[5],q[6],q[7]; x q[1]; x q[4]; x q[5]; x q[6];
+h q; x q; cccccccz q[0],q[1],q[2],q[3],q[4],q[5],q[6],q[7]; x q; h q;
+x q[1]; x q[4]; x q[5]; x q[6]; cccccccz q[0],q[1],q[2],q[3],q[4],q[5],q[6],q[7]; x q[1]; x q[4]; x q[5]; x q[6];
+h q; x q; cccccccz q[0],q[1],q[2],q[3],q[4],q[5],q[6],q[7]; x q; h q;
+x q[1]; x q[4]; x q[5]; x q[6]; cccccccz q[0],q[1],q[2],q[3],q[4],q[5],q[6],q[7]; x q[1]; x q[4]; x q[5]; x q[6];
+h q; x q; cccccccz q[0],q[1],q[2],q[3],q[4],q[5],q[6],q[7]; x q; h q;
+x q[1]; x q[4]; x q[5]; x q[6]; cccccccz q[0],q[1],q[2],q[3],q[4],q[5],q[6],q[7]; x q[1]; x q[4]; x q[5]; x q[6];
+h q; x q; cccccccz q[0],q[1],q[2],q[3],q[4],q[5],q[6],q[7]; x q; h q;
+x q[1]; x q[4]; x q[5]; x q[6]; cccccccz q[0],q[1],q[2],q[3],q[4],q[5],q[6],q[7]; x q[1]; x q[4]; x q[5]; x q[6];
+h q; x q; cccccccz q[0],q[1],q[2],q[3],q[4],q[5],q[6],q[7]; x q; h q;
+x q[1]; x q[4]; x q[5]; x q[6]; cccccccz q[0],q[1],q[2],q[3],q[4],q[5],q[6],q[7]; x q[1]; x q[4]; x q[5]; x q[6];
+h q; x q; cccccccz q[0],q[1],q[2],q[3],q[4],q[5],q[6],q[7]; x q; h q;
+x q[1]; x q[4]; x q[5]; x q[6]; cccccccz q[0],q[1],q[2],q[3],q[4],q[5],q[6],q[7]; x q[1]; x q[4]; x q[5]; x q[6];
+h q; x q; cccccccz q[0],q[1],q[2],q[3],q[4],q[5],q[6],q[7]; x q; h q;
+x q[1]; x q[4]; x q[5]; x q[6]; cccccccz q[0],q[1],q[2],q[3],q[4],q[5],q[6],q[7]; x q[1]; x q[4]; x q[5]; x q[6];
+h q; x q; cccccccz q[0],q[1],q[2],q[3],q[4],q[5],q[6],q[7]; x q; h q;
+x q[1]; x q[4]; x q[5]; x q[6]; cccccccz q[0],q[1],q[2],q[3],q[4],q[5],q[6],q[7]; x q[1]; x q[4]; x q[5]; x q[6];
+h q; x q; cccccccz q[0],q[1],q[2],q[3],q[4],q[5],q[6],q[7]; x q; h q;
+x q[1]; x q[4]; x q[5]; x q[6]; cccccccz q[0],q[1],q[2],q[3],q[4],q[5],q[6],q[7]; x q[1]; x q[4]; x q[5]; x q[6];
+h q; x q; cccccccz q[0],q[1],q[2],q[3],q[4],q[5],q[6],q[7]; x q; h q;

@@ -1,0 +1,41 @@
+// The code of five qubits under all errors at once: e, all even, chooses none for 0, x on q[0] to q[4] for 1 to 5, y for 6 to 10, z for 11 to 15, e[0] the highest bit.
+// Each error shows another syndrome of XZZXI, IXZZX, XIXZZ, ZXIXZ: 1 where a check has another letter than the error at its place, and not I.
+// The outcomes are e and its syndrome; no two are the same, as the code is perfect.
+OPENQASM 2.0;
+include "qelib1.inc";
+qreg e[4];
+qreg q[5];
+qreg s[4];
+creg c[8];
+h e;
+h q[0]; t q[0]; h q[0];
+cx q[0],q[1]; cx q[0],q[2]; cx q[0],q[3]; cx q[0],q[4];
+h q;
+cz q[0],q[1]; cz q[1],q[2]; cz q[2],q[3]; cz q[3],q[4]; cz q[4],q[0];
+x e[0]; x e[1]; x e[2]; ccccx e[0],e[1],e[2],e[3],q[0]; x e[0]; x e[1];
+x e[2];
+x e[0]; x e[1]; x e[3]; ccccx e[0],e[1],e[2],e[3],q[1]; x e[0]; x e[1];
+x e[3];
+x e[0]; x e[1]; ccccx e[0],e[1],e[2],e[3],q[2]; x e[0]; x e[1];
+x e[0]; x e[2]; x e[3]; ccccx e[0],e[1],e[2],e[3],q[3]; x e[0]; x e[2];
+x e[3];
+x e[0]; x e[2]; ccccx e[0],e[1],e[2],e[3],q[4]; x e[0]; x e[2];
+x e[0]; x e[3]; ccccy e[0],e[1],e[2],e[3],q[0]; x e[0]; x e[3];
+x e[0]; ccccy e[0],e[1],e[2],e[3],q[1]; x e[0];
+x e[1]; x e[2]; x e[3]; ccccy e[0],e[1],e[2],e[3],q[2]; x e[1]; x e[2];
+x e[3];
+x e[1]; x e[2]; ccccy e[0],e[1],e[2],e[3],q[3]; x e[1]; x e[2];
+x e[1]; x e[3]; ccccy e[0],e[1],e[2],e[3],q[4]; x e[1]; x e[3];
+x e[1]; ccccz e[0],e[1],e[2],e[3],q[0]; x e[1];
+x e[2]; x e[3]; ccccz e[0],e[1],e[2],e[3],q[1]; x e[2]; x e[3];
+x e[2]; ccccz e[0],e[1],e[2],e[3],q[2]; x e[2];
+x e[3]; ccccz e[0],e[1],e[2],e[3],q[3]; x e[3];
+ccccz e[0],e[1],e[2],e[3],q[4];
+h s;
+cx s[0],q[0]; cz s[0],q[1]; cz s[0],q[2]; cx s[0],q[3];
+cx s[1],q[1]; cz s[1],q[2]; cz s[1],q[3]; cx s[1],q[4];
+cx s[2],q[0]; cx s[2],q[2]; cz s[2],q[3]; cz s[2],q[4];
+cz s[3],q[0]; cx s[3],q[1]; cx s[3],q[3]; cz s[3],q[4];
+h s;
+measure e[0] -> c[0]; measure e[1] -> c[1]; measure e[2] -> c[2]; measure e[3] -> c[3];
+measure s[0] -> c[4]; measure s[1] -> c[5]; measure s[2] -> c[6]; measure s[3] -> c[7];

@@ -1,0 +1,24 @@
+// 200 gates drawn from h t tdg s x z cx cz ccx swap, on 10 qubits (seed 10 of the generator).
+OPENQASM 2.0;
+include "qelib1.inc";
+qreg q[10];
+t q[2]; z q[4]; swap q[9],q[5]; cx q[6],q[5]; x q[6]; cz q[7],q[5]; swap q[9],q[2]; h q[7]; h q[8]; h q[1];
+t q[2]; t q[7]; t q[4]; tdg q[1]; tdg q[9]; cx q[4],q[9]; swap q[7],q[5]; tdg q[0]; s q[1]; t q[2];
+t q[3]; h q[7]; cz q[7],q[4]; cx q[5],q[1]; h q[6]; cx q[8],q[2]; s q[9]; x q[6]; cx q[0],q[5]; swap q[5],q[6];
+t q[1]; swap q[1],q[5]; h q[2]; cx q[2],q[9]; cx q[5],q[1]; cz q[7],q[8]; s q[8]; t q[3]; cz q[4],q[7]; t q[6];
+h q[6]; h q[0]; z q[0]; ccx q[8],q[0],q[2]; tdg q[2]; x q[6]; swap q[1],q[9]; swap q[6],q[5]; cz q[0],q[9]; cz q[8],q[7];
+x q[2]; h q[6]; cx q[7],q[2]; cz q[6],q[0]; h q[5]; ccx q[1],q[9],q[5]; swap q[0],q[2]; t q[3]; h q[0]; h q[4];
+t q[9]; cx q[0],q[1]; t q[6]; h q[1]; cz q[7],q[6]; swap q[5],q[1]; x q[8]; ccx q[5],q[7],q[6]; z q[6]; s q[8];
+cx q[7],q[1]; swap q[0],q[6]; x q[5]; cx q[7],q[8]; cx q[2],q[3]; h q[8]; x q[3]; cx q[1],q[7]; t q[5]; cx q[9],q[5];
+h q[9]; h q[1]; cx q[9],q[0]; cx q[5],q[9]; cz q[4],q[2]; h q[9]; s q[3]; cz q[0],q[2]; h q[1]; swap q[5],q[2];
+t q[9]; h q[0]; t q[3]; cz q[8],q[3]; t q[8]; h q[2]; cx q[0],q[8]; cx q[0],q[9]; s q[0]; cx q[9],q[8];
+t q[0]; s q[3]; cx q[4],q[5]; z q[9]; t q[8]; cx q[0],q[2]; t q[5]; cx q[1],q[4]; t q[7]; cx q[8],q[1];
+z q[1]; t q[8]; swap q[2],q[7]; cx q[3],q[6]; s q[8]; h q[6]; s q[3]; tdg q[2]; swap q[9],q[5]; tdg q[4];
+cx q[0],q[6]; s q[3]; tdg q[5]; cx q[0],q[1]; x q[0]; h q[0]; t q[3]; h q[7]; swap q[4],q[9]; s q[8];
+cx q[5],q[2]; cz q[8],q[3]; z q[8]; tdg q[7]; cx q[0],q[5]; z q[2]; z q[8]; t q[1]; cx q[6],q[0]; s q[8];
+cx q[9],q[1]; h q[4]; x q[3]; cz q[3],q[7]; swap q[3],q[0]; cz q[3],q[5]; ccx q[9],q[3],q[8]; h q[4]; z q[8]; tdg q[8];
+cx q[6],q[0]; x q[6]; x q[7]; h q[1]; h q[3]; tdg q[8]; swap q[4],q[6]; cx q[4],q[9]; tdg q[4]; s q[9];
+t q[8]; z q[9]; t q[8]; s q[8]; h q[5]; cx q[9],q[7]; h q[3]; cx q[3],q[2]; t q[9]; h q[8];
+h q[9]; x q[0]; swap q[9],q[6]; h q[7]; h q[0]; tdg q[5]; swap q[1],q[2]; cz q[2],q[5]; ccx q[0],q[9],q[1]; h q[1];
+tdg q[9]; z q[3]; cx q[2],q[0]; x q[0]; h q[3]; z q[7]; t q[6]; swap q[0],q[1]; cx q[7],q[5]; t q[3];
+tdg q[1]; cx q[3],q[0]; s q[2]; t q[8]; x q[8]; h q[7]; ccx q[3],q[5],q[9]; t q[4]; t q[4]; cx q[1],q[2];

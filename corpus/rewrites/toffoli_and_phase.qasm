@@ -1,0 +1,6 @@
+// The Toffoli gate, and the phase -i where both controls are 1.
+OPENQASM 2.0;
+include "qelib1.inc";
+qreg q[3];
+ccx q[0],q[1],q[2];
+csdg q[0],q[1];
