@@ -1,89 +1,53 @@
 -- How bytes spell the tokens, blanks and comments of OpenQASM 2.0, and how a text is cut into them.
-use Rattle.std.specs.Prelude.{◌≡◌, ◌⊎◌, ℕ, ◌+◌, ◌-◌, ◌≤◌, ◌<◌, Bool, true, List, [], ◌∷◌, ◌++◌, length, map, drop, take, Option, Some, None}
+use Prim.Native.Char.{code}
+use Rattle.std.specs.Prelude.{◌≡◌, ◌⊎◌, ℕ, ◌-◌, ◌≤◌, ◌<◌, Bool, true, List, [], ◌∷◌, ◌++◌, length, map, drop, take, Option, Some, None, codes}
 use Rattle.std.specs.List.{AllByRecursion, filter_map, slice_range}
-use Rattle.qasm_lex.specs.declared.bytes.Class.{Class}
-use Rattle.qasm_lex.specs.declared.bytes.Class.TheVariants.{Digit, LetterE, Point, Quote, Minus, Greater, Equals, Slash}
-use Rattle.qasm_lex.specs.declared.bytes.Part.{Part}
-use Rattle.qasm_lex.specs.declared.bytes.Part.TheVariants.{Words, Digits, Quoted, Commented}
 use Rattle.qasm_lex.specs.declared.token.Token.{Token}
 use Rattle.qasm_lex.specs.declared.token.TokenKind.{TokenKind}
 use Rattle.qasm_lex.specs.declared.token.TokenKind.TheVariants.{Word, Whole, Real, Text, Arrow, Equal, Mark}
 use Rattle.qasm_lex.specs.declared.pieces.Form.{Form}
 use Rattle.qasm_lex.specs.declared.pieces.Form.TheVariants.{Blank, Comment, Token as OfKind}
-use Rattle.qasm_lex.specs.Bytes.{class_of, in_part, is_letter, is_mark, is_sign, is_blank}
+use Rattle.qasm_lex.specs.Bytes.{one_of, none_of, is_letter, is_digit, in_word, is_mark, is_blank}
 
--- bytes whose classes are all in the part, perhaps none
-abbrev pub IsRun : Part → List ℕ → Type 0
-IsRun part bs = AllByRecursion (λ b. in_part part (class_of b) ≡ true) bs
+-- bytes that all pass the test, perhaps none
+abbrev pub IsRun : (ℕ → Bool) → List ℕ → Type 0
+IsRun is bs = AllByRecursion (λ b. is b ≡ true) bs
 
--- `+` or `-` or nothing
-abbrev pub IsSign : List ℕ → Type 0
-IsSign [] = Unit {0}
-IsSign (b ∷ []) = is_sign (class_of b) ≡ true
-IsSign (b ∷ c ∷ bs) = ⊥
+-- one byte that passes the test
+abbrev pub IsOne : (ℕ → Bool) → List ℕ → Type 0
+IsOne is bs = (b : ℕ) × (bs ≡ b ∷ []) × (is b ≡ true)
+
+-- a part, and then another
+abbrev pub Then : (List ℕ → Type 0) → (List ℕ → Type 0) → List ℕ → Type 0
+Then First Second bs = (front : List ℕ) × (rest : List ℕ) × (bs ≡ front ++ rest) × First front × Second rest
+
+-- a part or nothing
+abbrev pub Maybe : (List ℕ → Type 0) → List ℕ → Type 0
+Maybe Part bs = (bs ≡ []) ⊎ Part bs
 
 -- one or more digits
-pub record IsWhole (bs : List ℕ) : Type 0 where
-  pub first : ℕ
-  pub more : List ℕ
-  pub spelled : bs ≡ first ∷ more
-  pub digit : class_of first ≡ Digit
-  pub digits : IsRun Digits more
+abbrev pub IsWhole : List ℕ → Type 0
+IsWhole bs = (0 < length bs) × IsRun is_digit bs
 
 -- `e` or `E`, a sign or none, and one or more digits
-pub record IsExponent (bs : List ℕ) : Type 0 where
-  pub letter : ℕ
-  pub signed : List ℕ
-  pub power : List ℕ
-  pub spelled : bs ≡ letter ∷ signed ++ power
-  pub is_e : class_of letter ≡ LetterE
-  pub is_sign : IsSign signed
-  pub is_power : IsWhole power
-
--- an exponent or none
-abbrev pub MayBeExponent : List ℕ → Type 0
-MayBeExponent bs = (bs ≡ []) ⊎ IsExponent bs
+abbrev pub IsExponent : List ℕ → Type 0
+IsExponent bs = Then (IsOne (one_of (codes "eE"))) (Then (Maybe (IsOne (one_of (codes "+-")))) IsWhole) bs
 
 -- digits, a point and digits, on one side of the point at least one, and an exponent or none
-pub record IsPointed (bs : List ℕ) : Type 0 where
-  pub whole : List ℕ
-  pub point : ℕ
-  pub part : List ℕ
-  pub power : List ℕ
-  pub spelled : bs ≡ whole ++ (point ∷ part ++ power)
-  pub is_whole : IsRun Digits whole
-  pub is_point : class_of point ≡ Point
-  pub is_part : IsRun Digits part
-  pub some_digit : 0 < length whole + length part
-  pub is_power : MayBeExponent power
-
--- digits and an exponent
-pub record IsScaled (bs : List ℕ) : Type 0 where
-  pub whole : List ℕ
-  pub power : List ℕ
-  pub spelled : bs ≡ whole ++ power
-  pub is_whole : IsWhole whole
-  pub is_power : IsExponent power
-
--- a first byte, and a run
-abbrev pub Begun : (Class → Bool) → Part → List ℕ → Type 0
-Begun is part bs = (b : ℕ) × (more : List ℕ) × (bs ≡ b ∷ more) × (is (class_of b) ≡ true) × IsRun part more
-
--- two bytes of these classes
-abbrev pub IsPair : Class → Class → List ℕ → Type 0
-IsPair f s bs = (b : ℕ) × (c : ℕ) × (bs ≡ b ∷ c ∷ []) × (class_of b ≡ f) × (class_of c ≡ s)
+abbrev pub IsPointed : List ℕ → Type 0
+IsPointed bs = (whole : List ℕ) × (part : List ℕ) × (power : List ℕ) × (bs ≡ whole ++ (code "." ∷ part ++ power)) × IsWhole (whole ++ part) × Maybe IsExponent power
 
 -- how bytes spell a piece of a text
 abbrev pub Spells : Form → List ℕ → Type 0
-Spells Blank bs = (b : ℕ) × (bs ≡ b ∷ []) × (is_blank (class_of b) ≡ true)
-Spells Comment bs = (b : ℕ) × (c : ℕ) × (more : List ℕ) × (bs ≡ b ∷ c ∷ more) × (class_of b ≡ Slash) × (class_of c ≡ Slash) × IsRun Commented more
-Spells (OfKind Word) bs = Begun is_letter Words bs
+Spells Blank bs = IsOne is_blank bs
+Spells Comment bs = (after : List ℕ) × (bs ≡ codes "//" ++ after) × IsRun (none_of (codes "\n")) after
+Spells (OfKind Word) bs = Then (IsOne is_letter) (IsRun in_word) bs
 Spells (OfKind Whole) bs = IsWhole bs
-Spells (OfKind Real) bs = IsPointed bs ⊎ IsScaled bs
-Spells (OfKind Text) bs = (b : ℕ) × (more : List ℕ) × (c : ℕ) × (bs ≡ b ∷ more ++ c ∷ []) × (class_of b ≡ Quote) × IsRun Quoted more × (class_of c ≡ Quote)
-Spells (OfKind Arrow) bs = IsPair Minus Greater bs
-Spells (OfKind Equal) bs = IsPair Equals Equals bs
-Spells (OfKind (Mark b)) bs = (bs ≡ b ∷ []) × (is_mark (class_of b) ≡ true)
+Spells (OfKind Real) bs = IsPointed bs ⊎ Then IsWhole IsExponent bs
+Spells (OfKind Text) bs = (inside : List ℕ) × (bs ≡ codes "\"" ++ inside ++ codes "\"") × IsRun (none_of (codes "\"\n")) inside
+Spells (OfKind Arrow) bs = bs ≡ codes "->"
+Spells (OfKind Equal) bs = bs ≡ codes "=="
+Spells (OfKind (Mark b)) bs = (bs ≡ b ∷ []) × (is_mark b ≡ true)
 
 -- longest match: the bytes begin with a spelling of the form, of n bytes, and with no longer spelling of any form.
 -- So `//` begins a comment, a comment ends with its line, and a word or a number ends where it can't go on
