@@ -1,6 +1,6 @@
 -- The lines of the text of `demo`, piece by piece.
 use Prim.Native.Char.{code}
-use Rattle.std.proofs.Common.{◌≡◌, ℕ, zero, suc, ◌+◌, ◌<◌, ◌≤◌, ◌/◌, ◌^◌, ◌==◌, true, cond, List, [], ◌∷◌, ◌++◌, map, length, get_or, take, drop, min, codes, decimal, inl, inr, refl, sym, ◌∙◌, ap, subst, arith}
+use Rattle.std.proofs.Common.{◌≡◌, ℕ, zero, suc, ◌+◌, ◌<◌, ◌≤◌, ◌/◌, ◌^◌, ◌==◌, true, cond, List, [], ◌∷◌, ◌++◌, map, length, get_or, take, drop, min, codes, decimal, None, inl, inr, refl, sym, ◌∙◌, ap, subst, arith}
 use Rattle.std.specs.List.{AllByRecursion, range_with_len, remove}
 use Rattle.std.proofs.lemmas.List.{append_assoc}
 use Rattle.std.proofs.lemmas.Bool.Decides.{nat_tests}
@@ -13,14 +13,14 @@ use Rattle.qasm_lex.specs.declared.pieces.Form.TheVariants.{Token as OfKind}
 use Rattle.qasm_lex.specs.declared.token.TokenKind.TheVariants.{Whole, Real, Text}
 use Rattle.qasm_lex.specs.Bytes.{is_digit}
 use Rattle.qasm_lex.specs.Private.Classes.{class_of}
-use Rattle.qasm_lex.specs.Lexemes.{Begins, IsRun, IsWhole}
+use Rattle.qasm_lex.specs.Lexemes.{Begins, IsRun, IsWhole, AreLexemes}
 use Rattle.qasm_lex.specs.Private.Scan.{run, exponent, number, quoted, piece_of}
 use Rattle.qasm_lex.proofs.Front.{begins}
 use Rattle.demo_text.proofs.Writing.{demo_parted}
 use Rattle.demo_text.specs.Generator.{Call, call, names, name_at, kinds, drawn, next, arity, qubits_drawn, call_drawn, after_call, calls_drawn, place_text, more_places, places_text, line, lines, first_calls, head_text, demo_text}
-use Rattle.demo_reads.proofs.Spelled.{Spelled, text_of, AreFronts, lexemes, HasLexemes}
+use Rattle.demo_reads.proofs.Spelled.{Spelled, text_of, AreFronts, lexemes}
 use Rattle.demo_reads.proofs.Pieces.{place_pieces, more_pieces, places_pieces, line_end, line_pieces, lines_pieces, head_pieces, demo_pieces}
-use Rattle.demo_reads.proofs.Cutting.{spelled_tokens}
+use Rattle.demo_reads.proofs.Cutting.{spelled_lexemes}
 use Rattle.demo_reads.proofs.Fronts.{IsWord, word_front, mark_front, blank_front, feed_front, whole_front}
 
 -- digits
@@ -277,5 +277,5 @@ demo_fronts q n seed le =
     let b = lines_pieces (calls_drawn q n seed) in
     fronts_append (head_pieces q) (a ++ b) [] (head_fronts q _ (omega (arith, le))) (fronts_append a b [] (lines_fronts (first_calls q) _ (first_lines q le)) (lines_fronts (calls_drawn q n seed) [] (drawn_lines q n seed le)))
 
-pub demo_has : (q n seed : ℕ) → 1 ≤ q → q ≤ 64 → HasLexemes (demo_text q n seed) (lexemes (demo_pieces q n seed))
-demo_has q n seed some le = subst (λ t. HasLexemes t (lexemes (demo_pieces q n seed))) (demo_bytes q n seed) (spelled_tokens (demo_pieces q n seed) (demo_fronts q n seed le))
+pub demo_has : (q n seed : ℕ) → 1 ≤ q → q ≤ 64 → AreLexemes (demo_text q n seed) (lexemes (demo_pieces q n seed)) None
+demo_has q n seed some le = subst (λ t. AreLexemes t (lexemes (demo_pieces q n seed)) None) (demo_bytes q n seed) (spelled_lexemes (demo_pieces q n seed) (demo_fronts q n seed le))

@@ -1,6 +1,6 @@
 -- A text cut into pieces.
 use Prim.Native.Char.{code}
-use Rattle.std.proofs.Common.{◌≡◌, ◌∙◌, sym, ap, refl, ◌≤◌, ◌<◌, inl, inr, ℕ, zero, suc, ◌+◌, ◌-◌, List, [], ◌∷◌, ◌++◌, length, drop, take, Option, Some, None, IfSome, IfNone, arith, length-append, length-drop, subst}
+use Rattle.std.proofs.Common.{◌≡◌, ◌∙◌, sym, ap, refl, ◌≤◌, ◌<◌, ◌⊎◌, inl, inr, ℕ, zero, suc, ◌+◌, ◌-◌, List, [], ◌∷◌, ◌++◌, length, drop, take, Option, Some, None, IfSome, IfNone, arith, length-append, length-drop, subst}
 use Rattle.std.proofs.Math.Seq.{take-length}
 use Rattle.std.proofs.Math.Nat.{eq-or-lt_of_le}
 use Rattle.std.proofs.lemmas.List.{length-take-le, take-append-drop}
@@ -12,7 +12,8 @@ use Rattle.qasm_lex.specs.declared.token.TokenKind.TheVariants.{Word, Whole, Rea
 use Rattle.qasm_lex.specs.declared.pieces.Form.{Form}
 use Rattle.qasm_lex.specs.declared.pieces.Form.TheVariants.{Blank, Comment, Token as OfKind}
 use Rattle.qasm_lex.specs.Private.Scan.{piece_of}
-use Rattle.qasm_lex.specs.Lexemes.{Spells, Begins, BeginsNone, Piece, IsPiece, Cut, token_of, Ends, AreTokens}
+use Rattle.qasm_lex.specs.Lexemes.{Then, IsWhole, IsExponent, IsPointed, SpellsForm, Begins, BeginsNone, Piece, IsPiece, Cut, token_of, Ends, AreTokens}
+use Rattle.qasm_lex.proofs.Forms.{piece_in, spells}
 use Rattle.qasm_lex.proofs.Front.{begins, begins_none, begins_is, comment_front}
 
 first_counts : (t : List ℕ) (b : ℕ) (more : List ℕ) → t ≡ b ∷ more → 0 < length t
@@ -21,15 +22,18 @@ first_counts t b more e = rw e (omega arith)
 front_counts : (t front rest : List ℕ) → t ≡ front ++ rest → 0 < length front → 0 < length t
 front_counts t front rest e h = omega (arith, ap length e, length-append front rest)
 
+real_counts : (t : List ℕ) → IsPointed t ⊎ Then IsWhole IsExponent t → 0 < length t
+real_counts t (inl s) = omega (arith, ap length s.3, length-append s.0 (code "." ∷ s.1 ++ s.2))
+real_counts t (inr s) = front_counts t s.0 s.1 s.2 (s.3).0
+
 -- a spelling has a byte
-pub spelling_some : (form : Form) (t : List ℕ) → Spells form t → 0 < length t
+pub spelling_some : (form : Form) (t : List ℕ) → SpellsForm form t → 0 < length t
 spelling_some Blank t s = first_counts t _ _ s.1
 spelling_some Comment t s = first_counts t _ _ s.1
-spelling_some (OfKind Word) t s = front_counts t s.0 s.1 s.2 (first_counts s.0 _ _ (s.3).1)
-spelling_some (OfKind Whole) t s = s.0
-spelling_some (OfKind Real) t (inl s) = omega (arith, ap length s.3, length-append s.0 (code "." ∷ s.1 ++ s.2))
-spelling_some (OfKind Real) t (inr s) = front_counts t s.0 s.1 s.2 (s.3).0
-spelling_some (OfKind Text) t s = first_counts t _ _ s.1
+spelling_some (OfKind Word) t s = let w = s.1 in front_counts t w.0 w.1 w.2 (first_counts w.0 _ _ (w.3).1)
+spelling_some (OfKind Whole) t s = (s.1).0
+spelling_some (OfKind Real) t s = real_counts t s.1
+spelling_some (OfKind Text) t s = first_counts t _ _ (s.1).1
 spelling_some (OfKind Arrow) t s = first_counts t _ _ s
 spelling_some (OfKind Equal) t s = first_counts t _ _ s
 spelling_some (OfKind (Mark b)) t s = first_counts t _ _ s.0
@@ -104,9 +108,9 @@ begins_not_end text a None form n e b =
     omega (arith, length-take-le n (drop a text) w, length-drop a text)
 begins_not_end text a (Some bad) form n e b =
     let h : BeginsNone (drop a text) = subst (λ k. BeginsNone (drop k text)) (sym e.0) e.2 in
-    h form (take n (drop a text)) (drop n (drop a text)) b.spelled (sym (take-append-drop n (drop a text)))
+    h (piece_in form (take n (drop a text))) (take n (drop a text)) (drop n (drop a text)) (spells form (take n (drop a text)) b.spelled) (sym (take-append-drop n (drop a text)))
 
-pair_same : (x y : Form × ℕ) → Some x ≡ Some y → x ≡ y
+pub pair_same : (x y : Form × ℕ) → Some x ≡ Some y → x ≡ y
 pair_same x y e = cc e
 
 piece_eq : (p q : Piece) → p.form ≡ q.form → p.from ≡ q.from → p.to ≡ q.to → p ≡ q
@@ -139,7 +143,7 @@ cut_same text a (p ∷ ps) (q ∷ qs) s t b c f e g h =
     let rest = cut_same text p.to ps qs s t b c f.2 e (subst (λ k. Cut text k qs t) (ap (λ x. x.to) (sym one)) g.2) h in
     (ap (λ x. x ∷ ps) one ∙ ap (λ x. q ∷ x) rest.0, rest.1)
 
-ends_same : (text : List ℕ) (s : ℕ) (b c : Option ℕ) → Ends text s b → Ends text s c → b ≡ c
+pub ends_same : (text : List ℕ) (s : ℕ) (b c : Option ℕ) → Ends text s b → Ends text s c → b ≡ c
 ends_same text s None None e h = refl
 ends_same text s None (Some c) e h = let l = h.1 in let q = h.0 in absurd (omega arith)
 ends_same text s (Some b) None e h = let l = e.1 in let q = e.0 in absurd (omega arith)

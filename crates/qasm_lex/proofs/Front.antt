@@ -1,6 +1,6 @@
 -- The piece at the front: what the scan finds begins the bytes, and nothing longer does.
 use Prim.Native.Char.{code}
-use Rattle.std.proofs.Common.{◌≡◌, ◌∙◌, sym, ap, refl, ◌≤◌, inl, inr, ℕ, suc, ◌+◌, true, List, [], ◌∷◌, ◌++◌, length, drop, take, Option, Some, None, codes, arith, add-one, append_assoc, length-append, subst}
+use Rattle.std.proofs.Common.{◌≡◌, ◌∙◌, sym, ap, refl, ◌≤◌, ◌⊎◌, inl, inr, ℕ, suc, ◌+◌, true, List, [], ◌∷◌, ◌++◌, length, drop, take, Option, Some, None, codes, arith, add-one, append_assoc, length-append, subst}
 use Rattle.std.proofs.Math.Seq.{drop-append_seam}
 use Rattle.std.proofs.lemmas.Bool.Decides.{nat_tests}
 use Rattle.std.proofs.lemmas.List.{length-take-le, take-append-drop}
@@ -12,15 +12,16 @@ use Rattle.qasm_lex.specs.declared.pieces.Form.TheVariants.{Blank, Comment, Toke
 use Rattle.qasm_lex.specs.Bytes.{none_of, is_letter, is_digit, in_word, is_mark, is_blank}
 use Rattle.qasm_lex.specs.Private.Classes.{class_of}
 use Rattle.qasm_lex.specs.Private.Scan.{front_class, run, number, quoted, closed, after_minus, after_equals, after_slash, piece_at, piece_of}
-use Rattle.qasm_lex.specs.Lexemes.{IsRun, Then, IsWhole, IsExponent, IsPointed, Spells, Begins, BeginsNone}
+use Rattle.qasm_lex.specs.Lexemes.{IsRun, Then, IsWhole, IsExponent, IsPointed, Lexeme, Spells, SpellsForm, Begins, BeginsNone}
 use Rattle.qasm_lex.proofs.Classes.{Means, means, digit_class}
+use Rattle.qasm_lex.proofs.Forms.{piece_in, spells, form_of}
 use Rattle.qasm_lex.proofs.Runs.{run_is, run_reaches, run_exact, run_within, run_parts}
 use Rattle.qasm_lex.proofs.Numbers.{Sound, Reaches, reaches_same, number_digit, number_point, number_whole, number_pointed, number_scaled, room, split_at}
 
 word_sound : (b : ℕ) (after : List ℕ) → is_letter b ≡ true → Sound (b ∷ after) (Some (Token Word, run in_word after + 1))
 word_sound b after h =
     let within = run_within in_word after in
-    (omega arith, rw add-one (b ∷ [], take (run in_word after) after, refl, (b, refl, h), run_is in_word after))
+    (omega arith, rw add-one (refl, (b ∷ [], take (run in_word after) after, refl, (b, refl, h), run_is in_word after)))
 
 mark_sound : (b : ℕ) (after : List ℕ) → is_mark b ≡ true → Sound (b ∷ after) (Some (Token (Mark b), 1))
 mark_sound b after h = (omega arith, (refl, h))
@@ -35,7 +36,7 @@ quoted_end after c rest d Quote q =
     let within = run_within (none_of (codes "\"\n")) after in
     let r = room after (c ∷ rest) n within d in
     let count : n + 2 ≡ suc (n + 1) = omega arith in
-    (omega arith, rw (count, split_at after (c ∷ rest) n 1 d, means c Quote q) (take n after, refl, run_is (none_of (codes "\"\n")) after))
+    (omega arith, rw (count, split_at after (c ∷ rest) n 1 d, means c Quote q) (refl, (take n after, refl, run_is (none_of (codes "\"\n")) after)))
 quoted_end after c rest d _ q = tt
 
 quoted_step : (after r : List ℕ) → drop (run (none_of (codes "\"\n")) after) after ≡ r → Sound (code "\"" ∷ after) (closed (run (none_of (codes "\"\n")) after) (front_class r))
@@ -179,23 +180,32 @@ number_pointed_front t u n =
 number_scaled_front : (t u : List ℕ) → Then IsWhole IsExponent t → piece_of (t ++ u) ≡ number (t ++ u)
 number_scaled_front t u n = rw (n.2, append_assoc n.0 n.1 u) (whole_front n.0 (n.1 ++ u) n.3)
 
-pub reaches : (form : Form) (t u : List ℕ) → Spells form t → Reaches (length t) form (piece_of (t ++ u))
+real_reaches : (t u : List ℕ) → IsPointed t ⊎ Then IsWhole IsExponent t → Reaches (length t) (Token Real) (piece_of (t ++ u))
+real_reaches t u (inl s) = rw (number_pointed_front t u s) (number_pointed t u s)
+real_reaches t u (inr s) = rw (number_scaled_front t u s) (number_scaled t u s)
+
+pub reaches : (form : Form) (t u : List ℕ) → SpellsForm form t → Reaches (length t) form (piece_of (t ++ u))
 reaches Blank t u s = rw (s.1, starts s.0 u (class_of s.0) refl) (blank_reaches s.0 u (class_of s.0) refl s.2)
 reaches Comment t u s =
     let r = run_reaches (none_of (codes "\n")) s.0 u s.2 in
     rw (s.1, comment_front (s.0 ++ u)) (reaches_same _ _ Comment (omega arith))
 reaches (Token Word) t u s =
-    let first = (s.3).0 in
-    rw (s.2, (s.3).1, starts first (s.1 ++ u) (class_of first) refl) (word_reaches first (length s.1) (s.1 ++ u) (class_of first) refl (s.3).2 (run_reaches in_word s.1 u s.4))
-reaches (Token Whole) t u s = rw (whole_front t u s) (number_whole t u s)
-reaches (Token Real) t u (inl s) = rw (number_pointed_front t u s) (number_pointed t u s)
-reaches (Token Real) t u (inr s) = rw (number_scaled_front t u s) (number_scaled t u s)
+    let w = s.1 in
+    let first = (w.3).0 in
+    rw (w.2, (w.3).1, starts first (w.1 ++ u) (class_of first) refl) (word_reaches first (length w.1) (w.1 ++ u) (class_of first) refl (w.3).2 (run_reaches in_word w.1 u w.4))
+reaches (Token Whole) t u s = rw (whole_front t u s.1) (number_whole t u s.1)
+reaches (Token Real) t u s = real_reaches t u s.1
 reaches (Token Text) t u s =
-    let size = length-append s.0 (code "\"" ∷ []) in
-    rw (s.1, append_assoc s.0 (code "\"" ∷ []) u, text_reaches s.0 u s.2) (reaches_same _ _ (Token Text) (omega arith))
+    let q = s.1 in
+    let size = length-append q.0 (code "\"" ∷ []) in
+    rw (q.1, append_assoc q.0 (code "\"" ∷ []) u, text_reaches q.0 u q.2) (reaches_same _ _ (Token Text) (omega arith))
 reaches (Token Arrow) t u s = rw (s, arrow_front u) (inr (refl, refl))
 reaches (Token Equal) t u s = rw (s, equal_front u) (inr (refl, refl))
 reaches (Token (Mark b)) t u s = rw (s.0, starts b u (class_of b) refl) (mark_reaches b u (class_of b) refl s.1)
+
+-- so does a spelling of a lexeme, or of none
+piece_reaches : (piece : Option Lexeme) (t u : List ℕ) → Spells piece t → (form : Form) × Reaches (length t) form (piece_of (t ++ u))
+piece_reaches piece t u s = let f = form_of piece t s in (f.0, reaches f.0 t u f.1)
 
 -- what the scan finds begins the bytes
 longest_end : (m : ℕ) (other form : Form) (n : ℕ) → Reaches m other (Some (form, n)) → m ≤ n
@@ -208,12 +218,12 @@ begins bs form n e =
     record {
       within = s.0;
       spelled = s.1;
-      longest = λ other longer after h q. longest_end (length longer) other form n
-          (subst (λ p. Reaches (length longer) other p) (ap piece_of (sym q) ∙ e) (reaches other longer after h));
+      longest = λ piece longer after h q. let r = piece_reaches piece longer after h in longest_end (length longer) r.0 form n
+          (subst (λ p. Reaches (length longer) r.0 p) (ap piece_of (sym q) ∙ e) r.1);
     }
 
 pub begins_none : (bs : List ℕ) → piece_of bs ≡ None → BeginsNone bs
-begins_none bs e other t u s q = subst (λ p. Reaches (length t) other p) (ap piece_of (sym q) ∙ e) (reaches other t u s)
+begins_none bs e piece t u s q = let r = piece_reaches piece t u s in subst (λ p. Reaches (length t) r.0 p) (ap piece_of (sym q) ∙ e) r.1
 
 -- what begins the bytes is what the scan finds: so it is the only one
 reached_is : (bs : List ℕ) (form : Form) (n : ℕ) → Begins bs form n → (found : Option (Form × ℕ)) → piece_of bs ≡ found → Reaches n form found → found ≡ Some (form, n)
@@ -222,7 +232,7 @@ reached_is bs form n b (Some p) e (inl l) =
     let f = begins bs p.0 p.1 e in
     let w = f.within in
     let size = length-take-le p.1 bs w in
-    let most = b.longest p.0 (take p.1 bs) (drop p.1 bs) f.spelled (sym (take-append-drop p.1 bs)) in
+    let most = b.longest (piece_in p.0 (take p.1 bs)) (take p.1 bs) (drop p.1 bs) (spells p.0 (take p.1 bs) f.spelled) (sym (take-append-drop p.1 bs)) in
     absurd (omega arith)
 reached_is bs form n b (Some p) e (inr q) = ap Some (ap (λ k. (p.0, k)) q.0 ∙ ap (λ f. (f, n)) q.1)
 

@@ -13,14 +13,14 @@ use Rattle.qasm_lex.specs.declared.pieces.Form.TheVariants.{Token}
 use Rattle.qasm_lex.specs.Bytes.{one_of, is_digit}
 use Rattle.qasm_lex.specs.Private.Classes.{class_of, is_e, is_sign}
 use Rattle.qasm_lex.specs.Private.Scan.{front_class, run, sign, exponent, number, at_point, with_point, without_point}
-use Rattle.qasm_lex.specs.Lexemes.{IsRun, IsOne, Then, Maybe, IsWhole, IsExponent, IsPointed, Spells}
+use Rattle.qasm_lex.specs.Lexemes.{IsRun, IsOne, Then, Maybe, IsWhole, IsExponent, IsPointed, SpellsForm}
 use Rattle.qasm_lex.proofs.Classes.{digit_class, e_class, e_decides, e_stops, sign_decides, means}
 use Rattle.qasm_lex.proofs.Runs.{run_is, run_reaches, run_exact, run_within, run_more, run_append, run_parts, Stops}
 
 -- what a scan of the bytes answers is spelled so
 abbrev pub Sound : List ℕ → Option (Form × ℕ) → Type 0
 Sound bs None = Unit {0}
-Sound bs (Some p) = (p.1 ≤ length bs) × Spells p.0 (take p.1 bs)
+Sound bs (Some p) = (p.1 ≤ length bs) × SpellsForm p.0 (take p.1 bs)
 
 -- a scan finds m bytes of the form, or more bytes
 abbrev pub Reaches : ℕ → Form → Option (Form × ℕ) → Type 0
@@ -168,15 +168,17 @@ with_point_sound_end bs after false z b d e =
     let l1 = length-take-le whole bs whole_within in
     let l2 = length-take-le part after part_within in (
       omega arith,
-      rw (count, split_at bs (b ∷ after) whole (suc (part + exponent rest)) d, means b Point e)
-          (inl (
-            take whole bs,
-            take part after,
-            take (exponent rest) rest,
-            ap (λ r. take whole bs ++ (code "." ∷ r)) (take-add part (exponent rest) after),
-            (omega (arith, length-append (take whole bs) (take part after)), run_append is_digit (take whole bs) (take part after) (run_is is_digit bs) (run_is is_digit after)),
-            power_is rest,
-          )),
+      rw (count, split_at bs (b ∷ after) whole (suc (part + exponent rest)) d, means b Point e) (
+        refl,
+        inl (
+          take whole bs,
+          take part after,
+          take (exponent rest) rest,
+          ap (λ r. take whole bs ++ (code "." ∷ r)) (take-add part (exponent rest) after),
+          (omega (arith, length-append (take whole bs) (take part after)), run_append is_digit (take whole bs) (take part after) (run_is is_digit bs) (run_is is_digit after)),
+          power_is rest,
+        ),
+      ),
     )
 
 with_point_sound : (bs : List ℕ) (b : ℕ) (after : List ℕ) → drop (run is_digit bs) bs ≡ b ∷ after → class_of b ≡ Point → Sound bs (with_point (run is_digit bs) after)
@@ -184,7 +186,7 @@ with_point_sound bs b after d e = with_point_sound_end bs after (nat_eq (run is_
 
 without_point_sound_end : (bs after : List ℕ) → (t : Bool) → nat_eq (exponent after) 0 ≡ t → drop (run is_digit bs) bs ≡ after → run is_digit bs ≢ 0
     → Sound bs (cond t (Some (Token Whole, run is_digit bs)) (Some (Token Real, run is_digit bs + exponent after)))
-without_point_sound_end bs after true z d ne = (run_within is_digit bs, whole_is bs ne)
+without_point_sound_end bs after true z d ne = (run_within is_digit bs, (refl, whole_is bs ne))
 without_point_sound_end bs after false z d ne =
     let whole = run is_digit bs in
     let whole_within : whole ≤ length bs = run_within is_digit bs in
@@ -193,7 +195,7 @@ without_point_sound_end bs after false z d ne =
     let some : exponent after ≢ 0 = λ q. let f = eq-eqb (exponent after) 0 q in cc in (
       omega arith,
       rw (split_at bs after whole (exponent after) d)
-          (inr (take whole bs, take (exponent after) after, refl, whole_is bs ne, exponent_is after some)),
+          (refl, inr (take whole bs, take (exponent after) after, refl, whole_is bs ne, exponent_is after some)),
     )
 
 without_point_sound : (bs after : List ℕ) → drop (run is_digit bs) bs ≡ after → run is_digit bs ≢ 0 → Sound bs (without_point (run is_digit bs) after)

@@ -1,4 +1,4 @@
--- How bytes spell the tokens, blanks and comments of OpenQASM 2.0, and how a text is cut into them.
+-- How bytes spell the lexemes, blanks and comments of OpenQASM 2.0, and how a text is cut into them; then its tokens, which have places.
 use Prim.Native.Char.{code}
 use Rattle.std.specs.Prelude.{◌≡◌, ◌⊎◌, ℕ, ◌-◌, ◌≤◌, ◌<◌, Bool, true, List, [], ◌∷◌, ◌++◌, length, map, drop, take, Option, Some, None, codes}
 use Rattle.std.specs.List.{AllByRecursion, filter_map, slice_range}
@@ -37,28 +37,79 @@ IsExponent bs = Then (IsOne (one_of (codes "eE"))) (Then (Maybe (IsOne (one_of (
 abbrev pub IsPointed : List ℕ → Type 0
 IsPointed bs = (whole : List ℕ) × (part : List ℕ) × (power : List ℕ) × (bs ≡ whole ++ (code "." ∷ part ++ power)) × IsWhole (whole ++ part) × Maybe IsExponent power
 
--- how bytes spell a piece of a text
-abbrev pub Spells : Form → List ℕ → Type 0
-Spells Blank bs = IsOne is_blank bs
-Spells Comment bs = (after : List ℕ) × (bs ≡ codes "//" ++ after) × IsRun (none_of (codes "\n")) after
-Spells (OfKind Word) bs = Then (IsOne is_letter) (IsRun in_word) bs
-Spells (OfKind Whole) bs = IsWhole bs
-Spells (OfKind Real) bs = IsPointed bs ⊎ Then IsWhole IsExponent bs
-Spells (OfKind Text) bs = (inside : List ℕ) × (bs ≡ codes "\"" ++ inside ++ codes "\"") × IsRun (none_of (codes "\"\n")) inside
-Spells (OfKind Arrow) bs = bs ≡ codes "->"
-Spells (OfKind Equal) bs = bs ≡ codes "=="
-Spells (OfKind (Mark b)) bs = (bs ≡ b ∷ []) × (is_mark b ≡ true)
+-- a token by what it is, with its bytes where its kind leaves a choice of them
+pub data Lexeme : Type 0 where
+  word : List ℕ → Lexeme
+  whole : List ℕ → Lexeme
+  real : List ℕ → Lexeme
+  quoted : List ℕ → Lexeme
+  arrow : Lexeme
+  equal : Lexeme
+  mark : ℕ → Lexeme
 
--- longest match: the bytes begin with a spelling of the form, of n bytes, and with no longer spelling of any form.
--- So `//` begins a comment, a comment ends with its line, and a word or a number ends where it can't go on
+-- two slashes and the rest of their line
+abbrev pub IsComment : List ℕ → Type 0
+IsComment bs = (after : List ℕ) × (bs ≡ codes "//" ++ after) × IsRun (none_of (codes "\n")) after
+
+-- how bytes spell a lexeme; or none: a blank or a comment
+abbrev pub Spells : Option Lexeme → List ℕ → Type 0
+Spells None bs = IsOne is_blank bs ⊎ IsComment bs
+Spells (Some (word bytes)) bs = (bs ≡ bytes) × Then (IsOne is_letter) (IsRun in_word) bs
+Spells (Some (whole bytes)) bs = (bs ≡ bytes) × IsWhole bs
+Spells (Some (real bytes)) bs = (bs ≡ bytes) × (IsPointed bs ⊎ Then IsWhole IsExponent bs)
+Spells (Some (quoted bytes)) bs = (bs ≡ bytes) × ((inside : List ℕ) × (bs ≡ codes "\"" ++ inside ++ codes "\"") × IsRun (none_of (codes "\"\n")) inside)
+Spells (Some arrow) bs = bs ≡ codes "->"
+Spells (Some equal) bs = bs ≡ codes "=="
+Spells (Some (mark b)) bs = (bs ≡ b ∷ []) × (is_mark b ≡ true)
+
+-- longest match: no spelling that the text begins with is longer than n bytes. So `//` begins a comment, a comment ends
+-- with its line, and a word or a number ends where it can't go on
+abbrev pub NoneLonger : List ℕ → ℕ → Type 0
+NoneLonger text n = (piece : Option Lexeme) (front after : List ℕ) → Spells piece front → text ≡ front ++ after → length front ≤ n
+
+-- the text begins with no spelling
+abbrev pub BeginsNone : List ℕ → Type 0
+BeginsNone text = (piece : Option Lexeme) (front after : List ℕ) → Spells piece front → text ≡ front ++ after → ⊥
+
+-- the text is spelled by these, one after the other, and then comes a rest
+abbrev pub Cuts : List ℕ → List (Option Lexeme) → List ℕ → Type 0
+Cuts text [] rest = text ≡ rest
+Cuts text (piece ∷ pieces) rest = (front : List ℕ) × (after : List ℕ) × (text ≡ front ++ after) × Spells piece front × NoneLonger text (length front) × Cuts after pieces rest
+
+-- the text ends at the place, or nothing begins there
+abbrev pub Ends : List ℕ → ℕ → Option ℕ → Type 0
+Ends text stop None = stop ≡ length text
+Ends text stop (Some bad) = (stop ≡ bad) × (bad < length text) × BeginsNone (drop bad text)
+
+-- the lexemes of the text up to its bad place
+pub record AreLexemes (text : List ℕ) (lexemes : List Lexeme) (bad : Option ℕ) : Type 0 where
+  pub pieces : List (Option Lexeme)
+  pub stop : ℕ
+  pub cuts : Cuts text pieces (drop stop text)
+  pub lexemes_are : lexemes ≡ filter_map (λ piece. piece) pieces
+  pub ends : Ends text stop bad
+
+-- the lexeme of a kind and its bytes
+abbrev pub of_kind : TokenKind → List ℕ → Lexeme
+of_kind Word bytes = word bytes
+of_kind Whole bytes = whole bytes
+of_kind Real bytes = real bytes
+of_kind Text bytes = quoted bytes
+of_kind Arrow bytes = arrow
+of_kind Equal bytes = equal
+of_kind (Mark b) bytes = mark b
+
+-- how bytes spell a piece of a form
+abbrev pub SpellsForm : Form → List ℕ → Type 0
+SpellsForm Blank bs = IsOne is_blank bs
+SpellsForm Comment bs = IsComment bs
+SpellsForm (OfKind kind) bs = Spells (Some (of_kind kind bs)) bs
+
+-- the bytes begin with a piece of the form, of n bytes, and with no longer one
 pub record Begins (bytes : List ℕ) (form : Form) (n : ℕ) : Type 0 where
   pub within : n ≤ length bytes
-  pub spelled : Spells form (take n bytes)
-  pub longest : (other : Form) (longer after : List ℕ) → Spells other longer → bytes ≡ longer ++ after → length longer ≤ n
-
--- the bytes begin with no spelling of any form
-abbrev pub BeginsNone : List ℕ → Type 0
-BeginsNone bytes = (other : Form) (spelling after : List ℕ) → Spells other spelling → bytes ≡ spelling ++ after → ⊥
+  pub spelled : SpellsForm form (take n bytes)
+  pub longest : NoneLonger bytes n
 
 -- a piece of a text, from one place up to another, places counted from 0
 pub record Piece : Type 0 where
@@ -85,11 +136,6 @@ of_form _ from to = None
 abbrev pub token_of : Piece → Option Token
 token_of p = of_form p.form p.from p.to
 
--- the text ends at the place, or nothing begins there
-abbrev pub Ends : List ℕ → ℕ → Option ℕ → Type 0
-Ends text stop None = stop ≡ length text
-Ends text stop (Some bad) = (stop ≡ bad) × (bad < length text) × BeginsNone (drop bad text)
-
 -- the tokens of the text up to its bad place
 pub record AreTokens (text : List ℕ) (tokens : List Token) (bad : Option ℕ) : Type 0 where
   pub pieces : List Piece
@@ -102,26 +148,6 @@ pub record AreTokens (text : List ℕ) (tokens : List Token) (bad : Option ℕ) 
 pub record IsWithin (text : List ℕ) (t : Token) : Type 0 where
   pub forward : t.from ≤ t.to
   pub within : t.to ≤ length text
-
--- a token by what it is, with its bytes where its kind leaves a choice of them
-pub data Lexeme : Type 0 where
-  word : List ℕ → Lexeme
-  whole : List ℕ → Lexeme
-  real : List ℕ → Lexeme
-  quoted : List ℕ → Lexeme
-  arrow : Lexeme
-  equal : Lexeme
-  mark : ℕ → Lexeme
-
--- the lexeme of a kind and its bytes
-abbrev pub of_kind : TokenKind → List ℕ → Lexeme
-of_kind Word bytes = word bytes
-of_kind Whole bytes = whole bytes
-of_kind Real bytes = real bytes
-of_kind Text bytes = quoted bytes
-of_kind Arrow bytes = arrow
-of_kind Equal bytes = equal
-of_kind (Mark b) bytes = mark b
 
 -- the lexeme that a token of the text is
 abbrev pub lexeme_of : List ℕ → Token → Lexeme
