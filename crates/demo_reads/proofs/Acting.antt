@@ -1,7 +1,6 @@
 -- The statements of the text of `demo`, and what they do.
 use Rattle.std.specs.Prelude.{◌≡◌, ℕ, true, List, [], ◌∷◌, ◌++◌, map, codes, decimal, Some, None}
-use Rattle.qasm_lex.specs.declared.token.Token.{Token}
-use Rattle.qasm_lex.specs.Lexemes.{AreTokens, lexemes_of}
+use Rattle.qasm_lex.specs.Lexemes.{Lexeme, AreLexemes}
 use Rattle.qasm_forms.specs.Statements.{Statement, version, include, qubits, call as calling, Argument, written}
 use Rattle.qasm_reader.specs.Parts.{Part, parts_of}
 use Rattle.qasm_reader.specs.Acts.{Act, Target, nothing, declares, applies}
@@ -41,8 +40,8 @@ head_acts q = nothing ∷ nothing ∷ declares true (codes "q") q ∷ []
 abbrev pub demo_acts : ℕ → ℕ → ℕ → List Act
 demo_acts q n seed = head_acts q ++ map line_act (demo_calls q n seed)
 
--- the text has tokens, no bad place, and these statements, each with its end
+-- the text has lexemes, no bad place, and these statements, each with its end
 pub record HasStatements (text : List ℕ) (statements : List Statement) : Type 0 where
-  pub tokens : List Token
-  pub are_tokens : AreTokens text tokens None
-  pub are_parts : parts_of (lexemes_of text tokens) None ≡ map closed_part statements
+  pub lexemes : List Lexeme
+  pub are_lexemes : AreLexemes text lexemes None
+  pub are_parts : parts_of lexemes None ≡ map closed_part statements

@@ -1,57 +1,47 @@
 -- The lines of the text of `demo`, piece by piece.
 use Prim.Native.Char.{code}
-use Rattle.std.proofs.Common.{◌≡◌, ℕ, zero, suc, ◌+◌, ◌<◌, ◌≤◌, ◌/◌, ◌^◌, ◌==◌, true, cond, List, [], ◌∷◌, ◌++◌, map, length, get_or, take, drop, min, codes, decimal, inl, inr, refl, sym, ◌∙◌, ap, subst, arith}
+use Rattle.std.proofs.Common.{◌≡◌, ℕ, zero, suc, ◌+◌, ◌<◌, ◌≤◌, ◌/◌, ◌^◌, ◌==◌, true, cond, List, [], ◌∷◌, ◌++◌, map, length, get_or, take, drop, min, codes, decimal, None, inl, inr, refl, sym, ◌∙◌, ap, subst, arith}
 use Rattle.std.specs.List.{AllByRecursion, range_with_len, remove}
 use Rattle.std.proofs.lemmas.List.{append_assoc}
+use Rattle.std.proofs.lemmas.Bool.Decides.{nat_tests}
 use Rattle.std.proofs.lemmas.Bool.{cases_eq, cases_Bool, cond-true, cond-false}
 use Rattle.std.proofs.lemmas.Int.Digits.{all_below_base_digits_of}
 use Rattle.std.specs.Int.Digits.{AllBelowBase, digits_of}
 use Rattle.std.proofs.lemmas.Fmt.{decimal-digits_of, decimal_digit, decimal_nonempty}
 use Rattle.std.proofs.Math.Nat.{mod-lt}
-use Rattle.qasm_lex.specs.declared.bytes.Part.TheVariants.{Digits}
 use Rattle.qasm_lex.specs.declared.pieces.Form.TheVariants.{Token as OfKind}
 use Rattle.qasm_lex.specs.declared.token.TokenKind.TheVariants.{Whole, Real, Text}
-use Rattle.qasm_lex.specs.Bytes.{class_of, in_part}
-use Rattle.qasm_lex.specs.Lexemes.{Begins, IsRun}
+use Rattle.qasm_lex.specs.Bytes.{is_digit}
+use Rattle.qasm_lex.specs.Private.Classes.{class_of}
+use Rattle.qasm_lex.specs.Lexemes.{Begins, IsRun, IsWhole, AreLexemes}
 use Rattle.qasm_lex.specs.Private.Scan.{run, exponent, number, quoted, piece_of}
 use Rattle.qasm_lex.proofs.Front.{begins}
 use Rattle.demo_text.proofs.Writing.{demo_parted}
 use Rattle.demo_text.specs.Generator.{Call, call, names, name_at, kinds, drawn, next, arity, qubits_drawn, call_drawn, after_call, calls_drawn, place_text, more_places, places_text, line, lines, first_calls, head_text, demo_text}
-use Rattle.demo_reads.proofs.Spelled.{Spelled, text_of, AreFronts, lexemes, HasLexemes}
+use Rattle.demo_reads.proofs.Spelled.{Spelled, text_of, AreFronts, lexemes}
 use Rattle.demo_reads.proofs.Pieces.{place_pieces, more_pieces, places_pieces, line_end, line_pieces, lines_pieces, head_pieces, demo_pieces}
-use Rattle.demo_reads.proofs.Cutting.{spelled_tokens}
-use Rattle.demo_reads.proofs.Fronts.{IsWord, AreDigits, word_front, mark_front, blank_front, feed_front, whole_front}
+use Rattle.demo_reads.proofs.Cutting.{spelled_lexemes}
+use Rattle.demo_reads.proofs.Fronts.{IsWord, word_front, mark_front, blank_front, feed_front, whole_front}
 
 -- digits
-digit_byte : (d : ℕ) → d < 10 → in_part Digits (class_of (48 + d)) ≡ true
-unfolding class_of
-digit_byte zero lt = refl
-digit_byte (suc zero) lt = refl
-digit_byte (suc (suc zero)) lt = refl
-digit_byte (suc (suc (suc zero))) lt = refl
-digit_byte (suc (suc (suc (suc zero)))) lt = refl
-digit_byte (suc (suc (suc (suc (suc zero))))) lt = refl
-digit_byte (suc (suc (suc (suc (suc (suc zero)))))) lt = refl
-digit_byte (suc (suc (suc (suc (suc (suc (suc zero))))))) lt = refl
-digit_byte (suc (suc (suc (suc (suc (suc (suc (suc zero)))))))) lt = refl
-digit_byte (suc (suc (suc (suc (suc (suc (suc (suc (suc zero))))))))) lt = refl
-digit_byte (suc (suc (suc (suc (suc (suc (suc (suc (suc (suc d)))))))))) lt = absurd (omega arith)
+digit_byte : (d : ℕ) → d < 10 → is_digit (48 + d) ≡ true
+digit_byte d lt = grind (arith, nat_tests)
 
-digit_run : (ds : List ℕ) → AllBelowBase 10 ds → IsRun Digits (map (λ d. 48 + d) ds)
+digit_run : (ds : List ℕ) → AllBelowBase 10 ds → IsRun is_digit (map (λ d. 48 + d) ds)
 digit_run [] h = tt
 digit_run (d ∷ ds) h = (digit_byte d h.0, digit_run ds h.1)
 
-decimal_run : (n : ℕ) → n < 2 ^ 64 → IsRun Digits (decimal n)
+decimal_run : (n : ℕ) → n < 2 ^ 64 → IsRun is_digit (decimal n)
 decimal_run n lt =
     elim (cases_eq n 0) [
       | inl e ↦
           let one : decimal n ≡ 48 ∷ [] = ap decimal e ∙ decimal_digit 0 (omega arith) in
-          subst (IsRun Digits) (sym one) (digit_byte 0 (omega arith), tt)
-      | inr ne ↦ subst (IsRun Digits) (sym (decimal-digits_of n (omega (arith, ne)) lt)) (digit_run (digits_of 10 n) (all_below_base_digits_of 10 n (omega arith)))
+          subst (IsRun is_digit) (sym one) (digit_byte 0 (omega arith), tt)
+      | inr ne ↦ subst (IsRun is_digit) (sym (decimal-digits_of n (omega (arith, ne)) lt)) (digit_run (digits_of 10 n) (all_below_base_digits_of 10 n (omega arith)))
     ]
 
-decimal_is : (n : ℕ) → n < 2 ^ 64 → AreDigits (decimal n)
-decimal_is n lt = record { some = decimal_nonempty n lt; digits = decimal_run n lt }
+decimal_is : (n : ℕ) → n < 2 ^ 64 → IsWhole (decimal n)
+decimal_is n lt = (decimal_nonempty n lt, decimal_run n lt)
 
 -- pieces one after the other
 text_append : (xs ys : List Spelled) → text_of (xs ++ ys) ≡ text_of xs ++ text_of ys
@@ -68,11 +58,9 @@ fronts_append (x ∷ xs) ys after hx hy =
 
 -- `q[I]`
 q_word : IsWord (codes "q")
-unfolding class_of
 q_word = record { first = 113; more = []; is = refl; letter = refl; run = tt }
 
 h_word : IsWord (codes "h")
-unfolding class_of
 h_word = record { first = 104; more = []; is = refl; letter = refl; run = tt }
 
 place_fronts : (i : ℕ) (after : List ℕ) → i < 2 ^ 64 → AreFronts (place_pieces i) after
@@ -147,7 +135,6 @@ all_at P (x ∷ xs) zero d h lt = h.0
 all_at P (x ∷ xs) (suc i) d h lt = all_at P xs i d h.1 (omega arith)
 
 each_name : AllByRecursion IsWord names
-unfolding class_of
 each_name = (record { first = 105; more = 100 ∷ []; is = refl; letter = refl; run = (refl, tt) }, (record { first = 120; more = []; is = refl; letter = refl; run = tt }, (record { first = 121; more = []; is = refl; letter = refl; run = tt }, (record { first = 122; more = []; is = refl; letter = refl; run = tt }, (record { first = 115; more = []; is = refl; letter = refl; run = tt }, (record { first = 115; more = 100 ∷ 103 ∷ []; is = refl; letter = refl; run = (refl, (refl, tt)) }, (record { first = 116; more = []; is = refl; letter = refl; run = tt }, (record { first = 116; more = 100 ∷ 103 ∷ []; is = refl; letter = refl; run = (refl, (refl, tt)) }, (record { first = 99; more = 120 ∷ []; is = refl; letter = refl; run = (refl, tt) }, (record { first = 99; more = 122 ∷ []; is = refl; letter = refl; run = (refl, tt) }, (record { first = 115; more = 119 ∷ 97 ∷ 112 ∷ []; is = refl; letter = refl; run = (refl, (refl, (refl, tt))) }, (record { first = 99; more = 99 ∷ 120 ∷ []; is = refl; letter = refl; run = (refl, (refl, tt)) }, (record { first = 99; more = 115 ∷ 119 ∷ 97 ∷ 112 ∷ []; is = refl; letter = refl; run = (refl, (refl, (refl, (refl, tt)))) }, tt)))))))))))))
 
 pub kinds_few : (q : ℕ) → (0 < kinds q) × (kinds q ≤ 13)
@@ -219,15 +206,12 @@ first_lines q le = hadamards (range_with_len 0 (min q 4)) (small_range 0 (min q 
 
 -- the head
 qasm_word : IsWord (codes "OPENQASM")
-unfolding class_of
 qasm_word = record { first = 79; more = 80 ∷ 69 ∷ 78 ∷ 81 ∷ 65 ∷ 83 ∷ 77 ∷ []; is = refl; letter = refl; run = (refl, (refl, (refl, (refl, (refl, (refl, (refl, tt))))))) }
 
 include_word : IsWord (codes "include")
-unfolding class_of
 include_word = record { first = 105; more = 110 ∷ 99 ∷ 108 ∷ 117 ∷ 100 ∷ 101 ∷ []; is = refl; letter = refl; run = (refl, (refl, (refl, (refl, (refl, (refl, tt)))))) }
 
 qreg_word : IsWord (codes "qreg")
-unfolding class_of
 qreg_word = record { first = 113; more = 114 ∷ 101 ∷ 103 ∷ []; is = refl; letter = refl; run = (refl, (refl, (refl, tt))) }
 
 version_front : (after : List ℕ) → Begins (codes "2.0" ++ (code ";" ∷ after)) (OfKind Real) 3
@@ -293,5 +277,5 @@ demo_fronts q n seed le =
     let b = lines_pieces (calls_drawn q n seed) in
     fronts_append (head_pieces q) (a ++ b) [] (head_fronts q _ (omega (arith, le))) (fronts_append a b [] (lines_fronts (first_calls q) _ (first_lines q le)) (lines_fronts (calls_drawn q n seed) [] (drawn_lines q n seed le)))
 
-pub demo_has : (q n seed : ℕ) → 1 ≤ q → q ≤ 64 → HasLexemes (demo_text q n seed) (lexemes (demo_pieces q n seed))
-demo_has q n seed some le = subst (λ t. HasLexemes t (lexemes (demo_pieces q n seed))) (demo_bytes q n seed) (spelled_tokens (demo_pieces q n seed) (demo_fronts q n seed le))
+pub demo_has : (q n seed : ℕ) → 1 ≤ q → q ≤ 64 → AreLexemes (demo_text q n seed) (lexemes (demo_pieces q n seed)) None
+demo_has q n seed some le = subst (λ t. AreLexemes t (lexemes (demo_pieces q n seed)) None) (demo_bytes q n seed) (spelled_lexemes (demo_pieces q n seed) (demo_fronts q n seed le))

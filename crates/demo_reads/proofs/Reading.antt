@@ -357,8 +357,8 @@ acts_circuit q n seed some le =
 pub demo_reads : (q n seed : ℕ) → 1 ≤ q → q ≤ 64 → n ≤ 500000 → HasStatements (demo_text q n seed) (demo_statements q n seed) → ReadsAs (demo_text q n seed) 64 (circuit (drawn_circuit q n seed))
 demo_reads q n seed some le few h =
     record {
-      tokens = h.tokens;
+      lexemes = h.lexemes;
       bad = None;
-      are_tokens = h.are_tokens;
+      are_lexemes = h.are_lexemes;
       reads = subst (λ ps. Reads 64 ps (circuit (drawn_circuit q n seed))) (sym h.are_parts) (demo_acts q n seed, all_accepted q n seed some le few, sym (acts_circuit q n seed some le));
     }

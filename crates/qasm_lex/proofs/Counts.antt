@@ -35,7 +35,7 @@ tokens_of_pieces : (pieces : List Piece) → length (filter_map token_of pieces)
 tokens_of_pieces [] = omega arith
 tokens_of_pieces (p ∷ pieces) = tokens_step p.form p.from p.to pieces (tokens_of_pieces pieces)
 
-ends_within : (text : List ℕ) (stop : ℕ) (bad : Option ℕ) → Ends text stop bad → stop ≤ length text
+pub ends_within : (text : List ℕ) (stop : ℕ) (bad : Option ℕ) → Ends text stop bad → stop ≤ length text
 ends_within text stop None e = omega arith
 ends_within text stop (Some bad) e = let a = e.0 in let b = e.1 in omega arith
 

@@ -1,5 +1,6 @@
 -- A text cut into pieces.
-use Rattle.std.proofs.Common.{◌≡◌, ◌∙◌, sym, ap, refl, ◌≤◌, ◌<◌, inl, inr, ℕ, zero, suc, ◌+◌, ◌-◌, List, [], ◌∷◌, ◌++◌, length, drop, take, Option, Some, None, IfSome, IfNone, arith, length-append, length-drop, subst}
+use Prim.Native.Char.{code}
+use Rattle.std.proofs.Common.{◌≡◌, ◌∙◌, sym, ap, refl, ◌≤◌, ◌<◌, ◌⊎◌, inl, inr, ℕ, zero, suc, ◌+◌, ◌-◌, List, [], ◌∷◌, ◌++◌, length, drop, take, Option, Some, None, IfSome, IfNone, arith, length-append, length-drop, subst}
 use Rattle.std.proofs.Math.Seq.{take-length}
 use Rattle.std.proofs.Math.Nat.{eq-or-lt_of_le}
 use Rattle.std.proofs.lemmas.List.{length-take-le, take-append-drop}
@@ -10,26 +11,31 @@ use Rattle.qasm_lex.specs.declared.token.TokenKind.{TokenKind}
 use Rattle.qasm_lex.specs.declared.token.TokenKind.TheVariants.{Word, Whole, Real, Text, Arrow, Equal, Mark}
 use Rattle.qasm_lex.specs.declared.pieces.Form.{Form}
 use Rattle.qasm_lex.specs.declared.pieces.Form.TheVariants.{Blank, Comment, Token as OfKind}
-use Rattle.qasm_lex.specs.Bytes.{class_of}
-use Rattle.qasm_lex.specs.Private.Scan.{piece_of, run}
-use Rattle.qasm_lex.specs.declared.bytes.Part.TheVariants.{Commented}
-use Rattle.qasm_lex.specs.Lexemes.{Spells, Begins, BeginsNone, Piece, IsPiece, Cut, token_of, Ends, AreTokens}
-use Rattle.qasm_lex.proofs.Front.{begins, begins_none, begins_is}
+use Rattle.qasm_lex.specs.Private.Scan.{piece_of}
+use Rattle.qasm_lex.specs.Lexemes.{Then, IsWhole, IsExponent, IsPointed, SpellsForm, Begins, BeginsNone, Piece, IsPiece, Cut, token_of, Ends, AreTokens}
+use Rattle.qasm_lex.proofs.Forms.{piece_in, spells}
+use Rattle.qasm_lex.proofs.Front.{begins, begins_none, begins_is, comment_front}
 
 first_counts : (t : List ℕ) (b : ℕ) (more : List ℕ) → t ≡ b ∷ more → 0 < length t
 first_counts t b more e = rw e (omega arith)
 
+front_counts : (t front rest : List ℕ) → t ≡ front ++ rest → 0 < length front → 0 < length t
+front_counts t front rest e h = omega (arith, ap length e, length-append front rest)
+
+real_counts : (t : List ℕ) → IsPointed t ⊎ Then IsWhole IsExponent t → 0 < length t
+real_counts t (inl s) = omega (arith, ap length s.3, length-append s.0 (code "." ∷ s.1 ++ s.2))
+real_counts t (inr s) = front_counts t s.0 s.1 s.2 (s.3).0
+
 -- a spelling has a byte
-pub spelling_some : (form : Form) (t : List ℕ) → Spells form t → 0 < length t
+pub spelling_some : (form : Form) (t : List ℕ) → SpellsForm form t → 0 < length t
 spelling_some Blank t s = first_counts t _ _ s.1
-spelling_some Comment t s = first_counts t _ _ s.3
-spelling_some (OfKind Word) t s = first_counts t _ _ s.2
-spelling_some (OfKind Whole) t s = first_counts t _ _ s.spelled
-spelling_some (OfKind Real) t (inl s) = omega (arith, ap length s.spelled, length-append s.whole (s.point ∷ s.part ++ s.power))
-spelling_some (OfKind Real) t (inr s) = omega (arith, ap length s.spelled, length-append s.whole s.power, ap length s.is_whole.spelled)
-spelling_some (OfKind Text) t s = first_counts t _ _ s.3
-spelling_some (OfKind Arrow) t s = first_counts t _ _ s.2
-spelling_some (OfKind Equal) t s = first_counts t _ _ s.2
+spelling_some Comment t s = first_counts t _ _ s.1
+spelling_some (OfKind Word) t s = let w = s.1 in front_counts t w.0 w.1 w.2 (first_counts w.0 _ _ (w.3).1)
+spelling_some (OfKind Whole) t s = (s.1).0
+spelling_some (OfKind Real) t s = real_counts t s.1
+spelling_some (OfKind Text) t s = first_counts t _ _ (s.1).1
+spelling_some (OfKind Arrow) t s = first_counts t _ _ s
+spelling_some (OfKind Equal) t s = first_counts t _ _ s
 spelling_some (OfKind (Mark b)) t s = first_counts t _ _ s.0
 
 pub begins_forward : (bs : List ℕ) (form : Form) (n : ℕ) → piece_of bs ≡ Some (form, n) → 0 < n
@@ -102,9 +108,9 @@ begins_not_end text a None form n e b =
     omega (arith, length-take-le n (drop a text) w, length-drop a text)
 begins_not_end text a (Some bad) form n e b =
     let h : BeginsNone (drop a text) = subst (λ k. BeginsNone (drop k text)) (sym e.0) e.2 in
-    h form (take n (drop a text)) (drop n (drop a text)) b.spelled (sym (take-append-drop n (drop a text)))
+    h (piece_in form (take n (drop a text))) (take n (drop a text)) (drop n (drop a text)) (spells form (take n (drop a text)) b.spelled) (sym (take-append-drop n (drop a text)))
 
-pair_same : (x y : Form × ℕ) → Some x ≡ Some y → x ≡ y
+pub pair_same : (x y : Form × ℕ) → Some x ≡ Some y → x ≡ y
 pair_same x y e = cc e
 
 piece_eq : (p q : Piece) → p.form ≡ q.form → p.from ≡ q.from → p.to ≡ q.to → p ≡ q
@@ -137,7 +143,7 @@ cut_same text a (p ∷ ps) (q ∷ qs) s t b c f e g h =
     let rest = cut_same text p.to ps qs s t b c f.2 e (subst (λ k. Cut text k qs t) (ap (λ x. x.to) (sym one)) g.2) h in
     (ap (λ x. x ∷ ps) one ∙ ap (λ x. q ∷ x) rest.0, rest.1)
 
-ends_same : (text : List ℕ) (s : ℕ) (b c : Option ℕ) → Ends text s b → Ends text s c → b ≡ c
+pub ends_same : (text : List ℕ) (s : ℕ) (b c : Option ℕ) → Ends text s b → Ends text s c → b ≡ c
 ends_same text s None None e h = refl
 ends_same text s None (Some c) e h = let l = h.1 in let q = h.0 in absurd (omega arith)
 ends_same text s (Some b) None e h = let l = e.1 in let q = e.0 in absurd (omega arith)
@@ -199,12 +205,6 @@ exist_from (suc n) text place list h d =
 pub tokens_exist : (text : List ℕ) → (list : List Token) × (bad : Option ℕ) × AreTokens text list bad
 tokens_exist text = exist_from (length text) text 0 [] (omega arith) (done_none text)
 
-slashes_piece : (more : List ℕ) → piece_of (47 ∷ 47 ∷ more) ≡ Some (Comment, run Commented more + 2)
-unfolding piece_of class_of
-slashes_piece more = refl
-
 -- two slashes begin a comment
 pub slashes : (more : List ℕ) (form : Form) (n : ℕ) → Begins (47 ∷ 47 ∷ more) form n → form ≡ Comment
-slashes more form n b =
-    let e : Some (form, n) ≡ Some (Comment, run Commented more + 2) = sym (begins_is (47 ∷ 47 ∷ more) form n b) ∙ slashes_piece more in
-    ap (λ x. x.0) (pair_same _ _ e)
+slashes more form n b = ap (λ x. x.0) (pair_same _ _ (sym (begins_is (47 ∷ 47 ∷ more) form n b) ∙ comment_front more))

@@ -1,25 +1,26 @@
 -- Numbers: what the scan finds is spelled so, and nothing longer is.
-use Rattle.std.proofs.Common.{◌≡◌, ◌≢◌, ◌∙◌, sym, ap, refl, ◌≤◌, ◌<◌, ◌⊎◌, inl, inr, ℕ, suc, ◌+◌, Bool, true, false, cond, List, [], ◌∷◌, ◌++◌, length, drop, take, Option, Some, None, nat_eq, arith, add-one, append_assoc, length-append, length-drop}
+use Prim.Native.Char.{code}
+use Rattle.std.proofs.Common.{◌≡◌, ◌≢◌, ◌∙◌, sym, ap, refl, ◌≤◌, ◌<◌, ◌⊎◌, inl, inr, ℕ, suc, ◌+◌, Bool, true, false, cond, List, [], ◌∷◌, ◌++◌, length, drop, take, Option, Some, None, nat_eq, codes, arith, append_assoc, length-append, length-drop}
 use Rattle.std.proofs.lemmas.List.{length-take-le}
 use Rattle.std.proofs.Math.Seq.{take-add, drop-append_seam}
 use Rattle.std.proofs.Math.Nat.{eq-or-lt_of_le}
 use Rattle.std.proofs.lemmas.Bool.{cases_eq, eqb-true, eq-eqb}
 use Rattle.qasm_lex.specs.declared.bytes.Class.{Class}
-use Rattle.qasm_lex.specs.declared.bytes.Class.TheVariants.{Digit, LetterE, Point}
-use Rattle.qasm_lex.specs.declared.bytes.Part.TheVariants.{Digits}
+use Rattle.qasm_lex.specs.declared.bytes.Class.TheVariants.{Digit, Point}
 use Rattle.qasm_lex.specs.declared.token.TokenKind.TheVariants.{Whole, Real}
 use Rattle.qasm_lex.specs.declared.pieces.Form.{Form}
 use Rattle.qasm_lex.specs.declared.pieces.Form.TheVariants.{Token}
-use Rattle.qasm_lex.specs.Bytes.{class_of, in_part, is_sign}
-use Rattle.qasm_lex.specs.Private.Scan.{is_e, front_class, run, sign, exponent, number, at_point, with_point, without_point}
-use Rattle.qasm_lex.specs.Lexemes.{IsRun, IsSign, IsWhole, IsExponent, MayBeExponent, IsPointed, IsScaled, Spells}
-use Rattle.qasm_lex.proofs.Classes.{e_is, digit_is}
-use Rattle.qasm_lex.proofs.Runs.{run_is, run_reaches, run_exact, run_within, run_more, Stops}
+use Rattle.qasm_lex.specs.Bytes.{one_of, is_digit}
+use Rattle.qasm_lex.specs.Private.Classes.{class_of, is_e, is_sign}
+use Rattle.qasm_lex.specs.Private.Scan.{front_class, run, sign, exponent, number, at_point, with_point, without_point}
+use Rattle.qasm_lex.specs.Lexemes.{IsRun, IsOne, Then, Maybe, IsWhole, IsExponent, IsPointed, SpellsForm}
+use Rattle.qasm_lex.proofs.Classes.{digit_class, e_class, e_decides, e_stops, sign_decides, means}
+use Rattle.qasm_lex.proofs.Runs.{run_is, run_reaches, run_exact, run_within, run_more, run_append, run_parts, Stops}
 
 -- what a scan of the bytes answers is spelled so
 abbrev pub Sound : List ℕ → Option (Form × ℕ) → Type 0
 Sound bs None = Unit {0}
-Sound bs (Some p) = (p.1 ≤ length bs) × Spells p.0 (take p.1 bs)
+Sound bs (Some p) = (p.1 ≤ length bs) × SpellsForm p.0 (take p.1 bs)
 
 -- a scan finds m bytes of the form, or more bytes
 abbrev pub Reaches : ℕ → Form → Option (Form × ℕ) → Type 0
@@ -29,13 +30,13 @@ Reaches m form (Some p) = (m < p.1) ⊎ ((p.1 ≡ m) × (p.0 ≡ form))
 pub reaches_same : (m n : ℕ) (form : Form) → m ≤ n → Reaches m form (Some (form, n))
 reaches_same m n form h = elim (eq-or-lt_of_le h) [ inl e ↦ inr (sym e, refl) | inr l ↦ inl l ]
 
-sign_step : (b : ℕ) (bs : List ℕ) (t : Bool) → is_sign (class_of b) ≡ t → IsSign (take (cond t 1 0) (b ∷ bs))
-sign_step b bs true e = e
-sign_step b bs false e = tt
+sign_step : (b : ℕ) (bs : List ℕ) (t : Bool) → is_sign (class_of b) ≡ t → Maybe (IsOne (one_of (codes "+-"))) (take (cond t 1 0) (b ∷ bs))
+sign_step b bs true e = inr (b, refl, sym (sign_decides b) ∙ e)
+sign_step b bs false e = inl refl
 
-pub sign_is : (bs : List ℕ) → IsSign (take (sign bs) bs)
+pub sign_is : (bs : List ℕ) → Maybe (IsOne (one_of (codes "+-"))) (take (sign bs) bs)
 unfolding sign
-sign_is [] = tt
+sign_is [] = inl refl
 sign_is (b ∷ bs) = sign_step b bs (is_sign (class_of b)) refl
 
 sign_within_step : (b : ℕ) (bs : List ℕ) (t : Bool) → cond t 1 0 ≤ suc (length bs)
@@ -47,46 +48,35 @@ unfolding sign
 sign_within [] = omega arith
 sign_within (b ∷ bs) = sign_within_step b bs (is_sign (class_of b))
 
-pub sign_exact : (g : List ℕ) (d : ℕ) (u : List ℕ) → IsSign g → class_of d ≡ Digit → sign (g ++ d ∷ u) ≡ length g
+pub sign_exact : (g : List ℕ) (d : ℕ) (u : List ℕ) → Maybe (IsOne (one_of (codes "+-"))) g → is_digit d ≡ true → sign (g ++ d ∷ u) ≡ length g
 unfolding sign
-sign_exact [] d u h e = rw e refl
-sign_exact (b ∷ []) d u h e = rw h refl
-sign_exact (b ∷ c ∷ g) d u h e = absurd h
+sign_exact g d u (inl z) h = rw (z, digit_class d h) refl
+sign_exact g d u (inr s) h = rw (s.1, sign_decides s.0, s.2) refl
 
-whole_step : (b : ℕ) (bs : List ℕ) (t : Bool) → in_part Digits (class_of b) ≡ t → IsRun Digits (take (run Digits bs) bs)
-    → cond t (run Digits bs + 1) 0 ≢ 0 → IsWhole (take (cond t (run Digits bs + 1) 0) (b ∷ bs))
-whole_step b bs true e rest ne = rw add-one (record { first = b; more = take (run Digits bs) bs; spelled = refl; digit = digit_is (class_of b) e; digits = rest })
-whole_step b bs false e rest ne = absurd (ne refl)
-
-pub whole_is : (bs : List ℕ) → run Digits bs ≢ 0 → IsWhole (take (run Digits bs) bs)
-unfolding run
-whole_is [] ne = absurd (ne refl)
-whole_is (b ∷ bs) ne = whole_step b bs (in_part Digits (class_of b)) refl (run_is Digits bs) ne
+pub whole_is : (bs : List ℕ) → run is_digit bs ≢ 0 → IsWhole (take (run is_digit bs) bs)
+whole_is bs ne = (omega (arith, length-take-le (run is_digit bs) bs (run_within is_digit bs)), run_is is_digit bs)
 
 -- exponents
-exponent_end : (b : ℕ) (after : List ℕ) → is_e (class_of b) ≡ true → (t : Bool) → nat_eq (run Digits (drop (sign after) after)) 0 ≡ t
-    → cond t 0 (1 + sign after + run Digits (drop (sign after) after)) ≢ 0
-    → IsExponent (take (cond t 0 (1 + sign after + run Digits (drop (sign after) after))) (b ∷ after))
+exponent_end : (b : ℕ) (after : List ℕ) → is_e (class_of b) ≡ true → (t : Bool) → nat_eq (run is_digit (drop (sign after) after)) 0 ≡ t
+    → cond t 0 (1 + sign after + run is_digit (drop (sign after) after)) ≢ 0
+    → IsExponent (take (cond t 0 (1 + sign after + run is_digit (drop (sign after) after))) (b ∷ after))
 exponent_end b after e true z ne = absurd (ne refl)
 exponent_end b after e false z ne =
-    let n = run Digits (drop (sign after) after) in
+    let n = run is_digit (drop (sign after) after) in
     let some : n ≢ 0 = λ q. let t = eq-eqb n 0 q in cc in
     let count : 1 + sign after + n ≡ suc (sign after + n) = omega arith in
-    rw (count, take-add (sign after) n after)
-    (record {
-      letter = b;
-      signed = take (sign after) after;
-      power = take n (drop (sign after) after);
-      spelled = refl;
-      is_e = e_is (class_of b) e;
-      is_sign = sign_is after;
-      is_power = whole_is (drop (sign after) after) some;
-    })
+    rw (count, take-add (sign after) n after) (
+      b ∷ [],
+      take (sign after) after ++ take n (drop (sign after) after),
+      refl,
+      (b, refl, sym (e_decides b) ∙ e),
+      (take (sign after) after, take n (drop (sign after) after), refl, sign_is after, whole_is (drop (sign after) after) some),
+    )
 
 exponent_step : (b : ℕ) (after : List ℕ) (t : Bool) → is_e (class_of b) ≡ t
-    → cond t (cond (nat_eq (run Digits (drop (sign after) after)) 0) 0 (1 + sign after + run Digits (drop (sign after) after))) 0 ≢ 0
-    → IsExponent (take (cond t (cond (nat_eq (run Digits (drop (sign after) after)) 0) 0 (1 + sign after + run Digits (drop (sign after) after))) 0) (b ∷ after))
-exponent_step b after true e ne = exponent_end b after e (nat_eq (run Digits (drop (sign after) after)) 0) refl ne
+    → cond t (cond (nat_eq (run is_digit (drop (sign after) after)) 0) 0 (1 + sign after + run is_digit (drop (sign after) after))) 0 ≢ 0
+    → IsExponent (take (cond t (cond (nat_eq (run is_digit (drop (sign after) after)) 0) 0 (1 + sign after + run is_digit (drop (sign after) after))) 0) (b ∷ after))
+exponent_step b after true e ne = exponent_end b after e (nat_eq (run is_digit (drop (sign after) after)) 0) refl ne
 exponent_step b after false e ne = absurd (ne refl)
 
 pub exponent_is : (bs : List ℕ) → exponent bs ≢ 0 → IsExponent (take (exponent bs) bs)
@@ -94,17 +84,10 @@ unfolding exponent
 exponent_is [] ne = absurd (ne refl)
 exponent_is (b ∷ after) ne = exponent_step b after (is_e (class_of b)) refl ne
 
--- a whole number that bytes begin with
-pub whole_reaches : (d : List ℕ) (u : List ℕ) → IsWhole d → (length d ≤ run Digits (d ++ u)) × (0 < length d)
-whole_reaches d u w =
-    rw w.spelled
-    (omega (arith, run_more Digits w.first (w.more ++ u) (rw w.digit refl), run_reaches Digits w.more u w.digits), omega arith)
-
 -- the sign and the digits of an exponent are found
-exponent_more : (g d u : List ℕ) → IsSign g → IsWhole d → (sign (g ++ (d ++ u)) ≡ length g) × (length d ≤ run Digits (drop (length g) (g ++ (d ++ u)))) × (0 < length d)
-exponent_more g d u s w =
-    let at = whole_reaches d u w in
-    (rw w.spelled (sign_exact g w.first (w.more ++ u) s w.digit), rw drop-append_seam (at.0), at.1)
+exponent_more : (g d u : List ℕ) → Maybe (IsOne (one_of (codes "+-"))) g → IsWhole d → (sign (g ++ (d ++ u)) ≡ length g) × (length d ≤ run is_digit (drop (length g) (g ++ (d ++ u))))
+exponent_more g [] u s w = absurd (omega (arith, w.0))
+exponent_more g (c ∷ d) u s w = (sign_exact g c (d ++ u) s (w.1).0, rw drop-append_seam (run_reaches is_digit (c ∷ d) u w.1))
 
 exponent_count : (n g m : ℕ) → 0 < m → m ≤ n → (t : Bool) → nat_eq n 0 ≡ t → 1 + g + m ≤ cond t 0 (1 + g + n)
 exponent_count n g m p h true e = let z = eqb-true n 0 e in absurd (omega arith)
@@ -113,42 +96,47 @@ exponent_count n g m p h false e = omega arith
 counted : ℕ → ℕ → ℕ
 counted s n = cond (nat_eq n 0) 0 (1 + s + n)
 
-exponent_at : (b : ℕ) (after : List ℕ) → class_of b ≡ LetterE → exponent (b ∷ after) ≡ counted (sign after) (run Digits (drop (sign after) after))
+exponent_at : (b : ℕ) (after : List ℕ) → one_of (codes "eE") b ≡ true → exponent (b ∷ after) ≡ counted (sign after) (run is_digit (drop (sign after) after))
 unfolding exponent counted
-exponent_at b after e = rw e refl
+exponent_at b after e = rw (e_decides b, e) refl
 
 counted_reaches : (n g m : ℕ) → 0 < m → m ≤ n → 1 + g + m ≤ counted g n
 unfolding counted
 counted_reaches n g m p h = exponent_count n g m p h (nat_eq n 0) refl
 
-exponent_from : (b : ℕ) (g d u : List ℕ) → class_of b ≡ LetterE → IsSign g → IsWhole d → 1 + length g + length d ≤ exponent (b ∷ g ++ (d ++ u))
+exponent_from : (b : ℕ) (g d u : List ℕ) → one_of (codes "eE") b ≡ true → Maybe (IsOne (one_of (codes "+-"))) g → IsWhole d → 1 + length g + length d ≤ exponent (b ∷ g ++ (d ++ u))
 exponent_from b g d u e s w =
     let f = exponent_more g d u s w in
-    rw (exponent_at b (g ++ (d ++ u)) e, f.0) (counted_reaches (run Digits (drop (length g) (g ++ (d ++ u)))) (length g) (length d) f.2 f.1)
+    rw (exponent_at b (g ++ (d ++ u)) e, f.0) (counted_reaches (run is_digit (drop (length g) (g ++ (d ++ u)))) (length g) (length d) w.0 f.1)
+
+-- an exponent begins with its letter
+begun : (x : List ℕ) (e : IsExponent x) → x ≡ (e.3).0 ∷ (e.4).0 ++ (e.4).1
+begun x e = e.2 ∙ ap (λ l. l ++ e.1) (e.3).1 ∙ ap (λ r. (e.3).0 ∷ r) (e.4).2
 
 pub exponent_reaches : (x u : List ℕ) → IsExponent x → (length x ≤ exponent (x ++ u)) × (0 < length x)
 exponent_reaches x u e =
-    rw e.spelled (
-      rw (append_assoc e.signed e.power u)
-          (let c = exponent_from e.letter e.signed e.power u e.is_e e.is_sign e.is_power in omega (arith, c, length-append e.signed e.power)),
+    let g = (e.4).0 in
+    let d = (e.4).1 in
+    rw (begun x e) (
+      rw (append_assoc g d u) (let c = exponent_from (e.3).0 g d u (e.3).2 (e.4).3 (e.4).4 in omega (arith, c, length-append g d)),
       omega arith,
     )
 
-exponent_within_step : (b : ℕ) (after : List ℕ) (t s : Bool) → cond t (cond s 0 (1 + sign after + run Digits (drop (sign after) after))) 0 ≤ suc (length after)
+exponent_within_step : (b : ℕ) (after : List ℕ) (t s : Bool) → cond t (cond s 0 (1 + sign after + run is_digit (drop (sign after) after))) 0 ≤ suc (length after)
 exponent_within_step b after true true = omega arith
-exponent_within_step b after true false = omega (arith, run_within Digits (drop (sign after) after), sign_within after, length-drop (sign after) after)
+exponent_within_step b after true false = omega (arith, run_within is_digit (drop (sign after) after), sign_within after, length-drop (sign after) after)
 exponent_within_step b after false s = omega arith
 
 pub exponent_within : (bs : List ℕ) → exponent bs ≤ length bs
 unfolding exponent
 exponent_within [] = omega arith
-exponent_within (b ∷ after) = exponent_within_step b after (is_e (class_of b)) (nat_eq (run Digits (drop (sign after) after)) 0)
+exponent_within (b ∷ after) = exponent_within_step b after (is_e (class_of b)) (nat_eq (run is_digit (drop (sign after) after)) 0)
 
 -- numbers
-exponent_stops : (x u : List ℕ) → IsExponent x → Stops Digits (x ++ u)
-exponent_stops x u e = rw e.spelled (rw e.is_e refl)
+exponent_stops : (x u : List ℕ) → IsExponent x → Stops is_digit (x ++ u)
+exponent_stops x u e = rw (begun x e) (e_stops (e.3).0 (e.3).2)
 
-power_is : (bs : List ℕ) → MayBeExponent (take (exponent bs) bs)
+power_is : (bs : List ℕ) → Maybe IsExponent (take (exponent bs) bs)
 power_is bs = elim (cases_eq (exponent bs) 0) [
   | inl z ↦ inl (ap (λ k. take k bs) z)
   | inr ne ↦ inr (exponent_is bs ne)
@@ -162,17 +150,17 @@ split_at bs rest n m e = take-add n m bs ∙ ap (λ r. take n bs ++ take m r) e
 pub room : (bs rest : List ℕ) (n : ℕ) → n ≤ length bs → drop n bs ≡ rest → n + length rest ≡ length bs
 room bs rest n h e = omega (arith, length-drop n bs, ap length e)
 
-with_point_sound_end : (bs after : List ℕ) → (t : Bool) → nat_eq (run Digits bs + run Digits after) 0 ≡ t
-    → (b : ℕ) → drop (run Digits bs) bs ≡ b ∷ after → class_of b ≡ Point
-    → Sound bs (cond t None (Some (Token Real, run Digits bs + 1 + run Digits after + exponent (drop (run Digits after) after))))
+with_point_sound_end : (bs after : List ℕ) → (t : Bool) → nat_eq (run is_digit bs + run is_digit after) 0 ≡ t
+    → (b : ℕ) → drop (run is_digit bs) bs ≡ b ∷ after → class_of b ≡ Point
+    → Sound bs (cond t None (Some (Token Real, run is_digit bs + 1 + run is_digit after + exponent (drop (run is_digit after) after))))
 with_point_sound_end bs after true z b d e = tt
 with_point_sound_end bs after false z b d e =
-    let whole = run Digits bs in
-    let part = run Digits after in
+    let whole = run is_digit bs in
+    let part = run is_digit after in
     let rest = drop part after in
     let count : whole + 1 + part + exponent rest ≡ whole + suc (part + exponent rest) = omega arith in
-    let whole_within : whole ≤ length bs = run_within Digits bs in
-    let part_within : part ≤ length after = run_within Digits after in
+    let whole_within : whole ≤ length bs = run_within is_digit bs in
+    let part_within : part ≤ length after = run_within is_digit after in
     let power_within : exponent rest ≤ length rest = exponent_within rest in
     let r1 = room bs (b ∷ after) whole whole_within d in
     let r2 = room after rest part part_within refl in
@@ -180,71 +168,69 @@ with_point_sound_end bs after false z b d e =
     let l1 = length-take-le whole bs whole_within in
     let l2 = length-take-le part after part_within in (
       omega arith,
-      rw (count, split_at bs (b ∷ after) whole (suc (part + exponent rest)) d)
-          (inl (record {
-            whole = take whole bs;
-            point = b;
-            part = take part after;
-            power = take (exponent rest) rest;
-            spelled = ap (λ r. take whole bs ++ (b ∷ r)) (take-add part (exponent rest) after);
-            is_whole = run_is Digits bs;
-            is_point = e;
-            is_part = run_is Digits after;
-            some_digit = omega arith;
-            is_power = power_is rest;
-          })),
+      rw (count, split_at bs (b ∷ after) whole (suc (part + exponent rest)) d, means b Point e) (
+        refl,
+        inl (
+          take whole bs,
+          take part after,
+          take (exponent rest) rest,
+          ap (λ r. take whole bs ++ (code "." ∷ r)) (take-add part (exponent rest) after),
+          (omega (arith, length-append (take whole bs) (take part after)), run_append is_digit (take whole bs) (take part after) (run_is is_digit bs) (run_is is_digit after)),
+          power_is rest,
+        ),
+      ),
     )
 
-with_point_sound : (bs : List ℕ) (b : ℕ) (after : List ℕ) → drop (run Digits bs) bs ≡ b ∷ after → class_of b ≡ Point → Sound bs (with_point (run Digits bs) after)
-with_point_sound bs b after d e = with_point_sound_end bs after (nat_eq (run Digits bs + run Digits after) 0) refl b d e
+with_point_sound : (bs : List ℕ) (b : ℕ) (after : List ℕ) → drop (run is_digit bs) bs ≡ b ∷ after → class_of b ≡ Point → Sound bs (with_point (run is_digit bs) after)
+with_point_sound bs b after d e = with_point_sound_end bs after (nat_eq (run is_digit bs + run is_digit after) 0) refl b d e
 
-without_point_sound_end : (bs after : List ℕ) → (t : Bool) → nat_eq (exponent after) 0 ≡ t → drop (run Digits bs) bs ≡ after → run Digits bs ≢ 0
-    → Sound bs (cond t (Some (Token Whole, run Digits bs)) (Some (Token Real, run Digits bs + exponent after)))
-without_point_sound_end bs after true z d ne = (run_within Digits bs, whole_is bs ne)
+without_point_sound_end : (bs after : List ℕ) → (t : Bool) → nat_eq (exponent after) 0 ≡ t → drop (run is_digit bs) bs ≡ after → run is_digit bs ≢ 0
+    → Sound bs (cond t (Some (Token Whole, run is_digit bs)) (Some (Token Real, run is_digit bs + exponent after)))
+without_point_sound_end bs after true z d ne = (run_within is_digit bs, (refl, whole_is bs ne))
 without_point_sound_end bs after false z d ne =
-    let whole = run Digits bs in
-    let whole_within : whole ≤ length bs = run_within Digits bs in
+    let whole = run is_digit bs in
+    let whole_within : whole ≤ length bs = run_within is_digit bs in
     let power_within : exponent after ≤ length after = exponent_within after in
     let r1 = room bs after whole whole_within d in
     let some : exponent after ≢ 0 = λ q. let f = eq-eqb (exponent after) 0 q in cc in (
       omega arith,
       rw (split_at bs after whole (exponent after) d)
-          (inr (record { whole = take whole bs; power = take (exponent after) after; spelled = refl; is_whole = whole_is bs ne; is_power = exponent_is after some })),
+          (refl, inr (take whole bs, take (exponent after) after, refl, whole_is bs ne, exponent_is after some)),
     )
 
-without_point_sound : (bs after : List ℕ) → drop (run Digits bs) bs ≡ after → run Digits bs ≢ 0 → Sound bs (without_point (run Digits bs) after)
+without_point_sound : (bs after : List ℕ) → drop (run is_digit bs) bs ≡ after → run is_digit bs ≢ 0 → Sound bs (without_point (run is_digit bs) after)
 without_point_sound bs after d ne = without_point_sound_end bs after (nat_eq (exponent after) 0) refl d ne
 
-number_sound_end : (bs : List ℕ) (b : ℕ) (after : List ℕ) → drop (run Digits bs) bs ≡ b ∷ after → (run Digits bs ≡ 0 → class_of b ≡ Point)
-    → (k : Class) → class_of b ≡ k → Sound bs (at_point (run Digits bs) k (b ∷ after))
+number_sound_end : (bs : List ℕ) (b : ℕ) (after : List ℕ) → drop (run is_digit bs) bs ≡ b ∷ after → (run is_digit bs ≡ 0 → class_of b ≡ Point)
+    → (k : Class) → class_of b ≡ k → Sound bs (at_point (run is_digit bs) k (b ∷ after))
 number_sound_end bs b after d p Point e = with_point_sound bs b after d e
 number_sound_end bs b after d p _ e = without_point_sound bs (b ∷ after) d (λ z. let q = p z in absurd (cc))
 
-number_sound_step : (bs r : List ℕ) → drop (run Digits bs) bs ≡ r → (run Digits bs ≡ 0 → front_class r ≡ Point) → Sound bs (at_point (run Digits bs) (front_class r) r)
+number_sound_step : (bs r : List ℕ) → drop (run is_digit bs) bs ≡ r → (run is_digit bs ≡ 0 → front_class r ≡ Point) → Sound bs (at_point (run is_digit bs) (front_class r) r)
 number_sound_step bs [] d p = without_point_sound bs [] d (λ z. let q = p z in absurd (cc))
 number_sound_step bs (b ∷ after) d p = number_sound_end bs b after d p (class_of b) refl
 
 pub number_digit : (b : ℕ) (after : List ℕ) → class_of b ≡ Digit → Sound (b ∷ after) (number (b ∷ after))
 unfolding number
 number_digit b after e =
-    let more = run_more Digits b after (rw e refl) in
+    let more = run_more is_digit b after (means b Digit e) in
     number_sound_step (b ∷ after) _ refl (λ z. absurd (omega arith))
 
 pub number_point : (b : ℕ) (after : List ℕ) → class_of b ≡ Point → Sound (b ∷ after) (number (b ∷ after))
 unfolding number
-number_point b after e = number_sound_step (b ∷ after) _ refl (λ z. rw z (rw e refl))
+number_point b after e = number_sound_step (b ∷ after) _ refl (λ z. rw z e)
 
 -- nothing longer
-with_point_more_end : (m : ℕ) (form : Form) (whole : ℕ) (after : List ℕ) → 0 < whole + run Digits after → (t : Bool) → nat_eq (whole + run Digits after) 0 ≡ t
-    → Reaches m form (Some (Token Real, whole + 1 + run Digits after + exponent (drop (run Digits after) after)))
-    → Reaches m form (cond t None (Some (Token Real, whole + 1 + run Digits after + exponent (drop (run Digits after) after))))
-with_point_more_end m form whole after h true e r = let z = eqb-true (whole + run Digits after) 0 e in absurd (omega arith)
+with_point_more_end : (m : ℕ) (form : Form) (whole : ℕ) (after : List ℕ) → 0 < whole + run is_digit after → (t : Bool) → nat_eq (whole + run is_digit after) 0 ≡ t
+    → Reaches m form (Some (Token Real, whole + 1 + run is_digit after + exponent (drop (run is_digit after) after)))
+    → Reaches m form (cond t None (Some (Token Real, whole + 1 + run is_digit after + exponent (drop (run is_digit after) after))))
+with_point_more_end m form whole after h true e r = let z = eqb-true (whole + run is_digit after) 0 e in absurd (omega arith)
 with_point_more_end m form whole after h false e r = r
 
-with_point_more : (m : ℕ) (form : Form) (whole : ℕ) (after : List ℕ) → 0 < whole + run Digits after
-    → Reaches m form (Some (Token Real, whole + 1 + run Digits after + exponent (drop (run Digits after) after)))
+with_point_more : (m : ℕ) (form : Form) (whole : ℕ) (after : List ℕ) → 0 < whole + run is_digit after
+    → Reaches m form (Some (Token Real, whole + 1 + run is_digit after + exponent (drop (run is_digit after) after)))
     → Reaches m form (with_point whole after)
-with_point_more m form whole after h r = with_point_more_end m form whole after h (nat_eq (whole + run Digits after) 0) refl r
+with_point_more m form whole after h r = with_point_more_end m form whole after h (nat_eq (whole + run is_digit after) 0) refl r
 
 without_point_whole_end : (m whole more : ℕ) → m ≤ whole → (t : Bool) → nat_eq more 0 ≡ t
     → Reaches m (Token Whole) (cond t (Some (Token Whole, whole)) (Some (Token Real, whole + more)))
@@ -262,32 +248,40 @@ number_whole_step m whole _ r h p = without_point_whole m whole r h
 
 pub number_whole : (d u : List ℕ) → IsWhole d → Reaches (length d) (Token Whole) (number (d ++ u))
 unfolding number
-number_whole d u w = let f = whole_reaches d u w in number_whole_step (length d) (run Digits (d ++ u)) (front_class (drop (run Digits (d ++ u)) (d ++ u))) (drop (run Digits (d ++ u)) (d ++ u)) f.0 f.1
+number_whole d u w = number_whole_step (length d) (run is_digit (d ++ u)) (front_class (drop (run is_digit (d ++ u)) (d ++ u))) (drop (run is_digit (d ++ u)) (d ++ u)) (run_reaches is_digit d u w.1) w.0
 
 -- a number whose run of digits ends before a rest
-number_at : (w r : List ℕ) → IsRun Digits w → Stops Digits r → number (w ++ r) ≡ at_point (length w) (front_class r) r
+number_at : (w r : List ℕ) → IsRun is_digit w → Stops is_digit r → number (w ++ r) ≡ at_point (length w) (front_class r) r
 unfolding number
-number_at w r h s = rw (run_exact Digits w r h s) (ap (λ x. at_point (length w) (front_class x) x) (drop-append_seam w r))
+number_at w r h s = rw (run_exact is_digit w r h s) (ap (λ x. at_point (length w) (front_class x) x) (drop-append_seam w r))
 
-part_reaches : (part power u : List ℕ) → IsRun Digits part → MayBeExponent power
-    → length part + length power ≤ run Digits (part ++ (power ++ u)) + exponent (drop (run Digits (part ++ (power ++ u))) (part ++ (power ++ u)))
-part_reaches part power u h (inl z) = rw z (omega (arith, run_reaches Digits part u h))
+part_reaches : (part power u : List ℕ) → IsRun is_digit part → Maybe IsExponent power
+    → length part + length power ≤ run is_digit (part ++ (power ++ u)) + exponent (drop (run is_digit (part ++ (power ++ u))) (part ++ (power ++ u)))
+part_reaches part power u h (inl z) = rw z (omega (arith, run_reaches is_digit part u h))
 part_reaches part power u h (inr e) =
-    rw (run_exact Digits part (power ++ u) h (exponent_stops power u e), drop-append_seam)
+    rw (run_exact is_digit part (power ++ u) h (exponent_stops power u e), drop-append_seam)
     (omega (arith, (exponent_reaches power u e).0))
+
+-- a point after digits
+point_at : (w r : List ℕ) → IsRun is_digit w → number (w ++ (code "." ∷ r)) ≡ with_point (length w) r
+unfolding class_of
+point_at w r h = number_at w (code "." ∷ r) h refl
 
 pub number_pointed : (t u : List ℕ) → IsPointed t → Reaches (length t) (Token Real) (number (t ++ u))
 number_pointed t u n =
-    let rest = n.part ++ (n.power ++ u) in
-    let regrouped : t ++ u ≡ n.whole ++ (n.point ∷ rest) =
-    ap (λ x. x ++ u) n.spelled ∙ append_assoc n.whole (n.point ∷ n.part ++ n.power) u ∙ ap (λ x. n.whole ++ (n.point ∷ x)) (append_assoc n.part n.power u) in
-    let far = part_reaches n.part n.power u n.is_part n.is_power in
-    let near = run_reaches Digits n.part (n.power ++ u) n.is_part in
-    let size : length t ≡ length n.whole + suc (length n.part + length n.power) =
-    omega (arith, ap length n.spelled, length-append n.whole (n.point ∷ n.part ++ n.power), length-append n.part n.power) in
-    let some = n.some_digit in
-    rw (regrouped, number_at n.whole (n.point ∷ rest) n.is_whole (rw n.is_point refl), n.is_point)
-    (with_point_more (length t) (Token Real) (length n.whole) rest (omega arith)
+    let whole = n.0 in
+    let part = n.1 in
+    let power = n.2 in
+    let digits = run_parts is_digit whole part (n.4).1 in
+    let rest = part ++ (power ++ u) in
+    let regrouped : t ++ u ≡ whole ++ (code "." ∷ rest) =
+    ap (λ x. x ++ u) n.3 ∙ append_assoc whole (code "." ∷ part ++ power) u ∙ ap (λ x. whole ++ (code "." ∷ x)) (append_assoc part power u) in
+    let far = part_reaches part power u digits.1 n.5 in
+    let near = run_reaches is_digit part (power ++ u) digits.1 in
+    let size : length t ≡ length whole + suc (length part + length power) = omega (arith, ap length n.3, length-append whole (code "." ∷ part ++ power), length-append part power) in
+    let some : 0 < length whole + length part = omega (arith, (n.4).0, length-append whole part) in
+    rw (regrouped, point_at whole rest digits.0)
+    (with_point_more (length t) (Token Real) (length whole) rest (omega arith)
     (reaches_same (length t) _ (Token Real) (omega arith)))
 
 scaled_more : (m whole more : ℕ) → m ≤ more → 0 < m → (t : Bool) → nat_eq more 0 ≡ t
@@ -295,21 +289,20 @@ scaled_more : (m whole more : ℕ) → m ≤ more → 0 < m → (t : Bool) → n
 scaled_more m whole more h p true e = let z = eqb-true more 0 e in absurd (omega arith)
 scaled_more m whole more h p false e = reaches_same (whole + m) (whole + more) (Token Real) (omega arith)
 
-scaled_end : (m whole b : ℕ) (after : List ℕ) → class_of b ≡ LetterE → m ≤ exponent (b ∷ after) → 0 < m
+scaled_end : (m whole b : ℕ) (after : List ℕ) → one_of (codes "eE") b ≡ true → m ≤ exponent (b ∷ after) → 0 < m
     → Reaches (whole + m) (Token Real) (at_point whole (class_of b) (b ∷ after))
-scaled_end m whole b after e h p = rw e (scaled_more m whole (exponent (b ∷ after)) h p (nat_eq (exponent (b ∷ after)) 0) refl)
+scaled_end m whole b after e h p = rw (e_class b e) (scaled_more m whole (exponent (b ∷ after)) h p (nat_eq (exponent (b ∷ after)) 0) refl)
 
-whole_run : (d : List ℕ) → IsWhole d → IsRun Digits d
-whole_run d w = rw w.spelled (rw w.digit refl, w.digits)
-
-pub number_scaled : (t u : List ℕ) → IsScaled t → Reaches (length t) (Token Real) (number (t ++ u))
+pub number_scaled : (t u : List ℕ) → Then IsWhole IsExponent t → Reaches (length t) (Token Real) (number (t ++ u))
 number_scaled t u n =
-    let e = n.is_power in
-    let rest = (e.signed ++ e.power) ++ u in
-    let regrouped : t ++ u ≡ n.whole ++ (n.power ++ u) = ap (λ x. x ++ u) n.spelled ∙ append_assoc n.whole n.power u in
-    let power_is : n.power ++ u ≡ e.letter ∷ rest = ap (λ x. x ++ u) e.spelled in
-    let reached = exponent_reaches n.power u e in
-    let found : length n.power ≤ exponent (e.letter ∷ rest) = omega (arith, reached.0, ap exponent power_is) in
-    let size : length t ≡ length n.whole + length n.power = omega (arith, ap length n.spelled, length-append n.whole n.power) in
-    rw (size, regrouped, number_at n.whole (n.power ++ u) (whole_run n.whole n.is_whole) (exponent_stops n.power u e), power_is)
-    (scaled_end (length n.power) (length n.whole) e.letter rest e.is_e found reached.1)
+    let whole = n.0 in
+    let power = n.1 in
+    let e = n.4 in
+    let rest = ((e.4).0 ++ (e.4).1) ++ u in
+    let regrouped : t ++ u ≡ whole ++ (power ++ u) = ap (λ x. x ++ u) n.2 ∙ append_assoc whole power u in
+    let power_is : power ++ u ≡ (e.3).0 ∷ rest = ap (λ x. x ++ u) (begun power e) in
+    let reached = exponent_reaches power u e in
+    let found : length power ≤ exponent ((e.3).0 ∷ rest) = omega (arith, reached.0, ap exponent power_is) in
+    let size : length t ≡ length whole + length power = omega (arith, ap length n.2, length-append whole power) in
+    rw (size, regrouped, number_at whole (power ++ u) (n.3).1 (exponent_stops power u e), power_is)
+    (scaled_end (length power) (length whole) (e.3).0 rest (e.3).2 found reached.1)

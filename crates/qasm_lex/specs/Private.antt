@@ -1,3 +1,4 @@
 -- Words that only the clauses of private functions and lemmas cite: a user of the crate may skip this folder.
+pub mod Classes
 pub mod Scan
 pub mod Descent

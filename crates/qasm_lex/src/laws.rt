@@ -6,7 +6,7 @@ ghost use Rattle.qasm_lex.specs.Angles.{IsAnswer};
 ghost use Rattle.qasm_lex.specs.Quarters.{IsQuarters, IsEighths};
 ghost use Rattle.qasm_lex.specs.declared.symbol.Symbol.{Symbol};
 ghost use Rattle.qasm_lex.specs.declared.refusal.AngleRefusal.{AngleRefusal};
-ghost use Rattle.qasm_lex.specs.Lexemes.{AreTokens, Begins};
+ghost use Rattle.qasm_lex.specs.Lexemes.{AreLexemes, AreTokens, Begins, Lexeme, lexemes_of};
 ghost use Rattle.qasm_lex.specs.Expressions.{Tree, Formed, spelling};
 ghost use Rattle.qasm_lex.specs.declared.token.Token.{Token};
 ghost use Rattle.qasm_lex.specs.declared.pieces.Form.{Form};
@@ -20,6 +20,12 @@ pub fn every_text_has_tokens()
 /// A text has one list of tokens and one bad place.
 pub fn tokens_are_unique()
     ensures { (text : List ℕ) (list more : List Token) (bad worse : Option ℕ) → AreTokens text list bad → AreTokens text more worse → (list ≡ more) × (bad ≡ worse) }
+{}
+
+/// A text is cut into the lexemes of its tokens, and into no others.
+pub fn tokens_are_the_lexemes()
+    ensures are { (text : List ℕ) (list : List Token) (bad : Option ℕ) → AreTokens text list bad → AreLexemes text (lexemes_of text list) bad }
+    ensures only { (text : List ℕ) (list more : List Lexeme) (bad worse : Option ℕ) → AreLexemes text list bad → AreLexemes text more worse → (list ≡ more) × (bad ≡ worse) }
 {}
 
 /// A text has at most as many tokens as bytes.

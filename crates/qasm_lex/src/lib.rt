@@ -24,7 +24,7 @@ pub use laws::{
     angles_have_one_answer, angles_have_positive_denominators, eighths_are_unique,
     every_angle_has_an_answer, every_text_has_tokens, expressions_are_unambiguous, lowest_terms,
     lowest_terms_are_unique, quarters_are_unique, slashes_begin_a_comment,
-    tokens_are_at_most_the_bytes, tokens_are_unique,
+    tokens_are_at_most_the_bytes, tokens_are_the_lexemes, tokens_are_unique,
 };
 pub use number::number_below;
 pub use pi_fraction::PiFraction;

@@ -6,6 +6,7 @@ use Rattle.std.proofs.lemmas.Option.{none-some}
 use Rattle.qasm_lex.specs.Lexemes.{Lexeme, word, mark, lexemes_of}
 use Rattle.qasm_lex.specs.Symbols.{decimal}
 use Rattle.qasm_lex.proofs.Cuts.{tokens_exist}
+use Rattle.qasm_lex.proofs.LexemeCuts.{are_lexemes}
 use Rattle.qasm_forms.specs.Statements.{Statement, version, qubits, bits, measure, call, Argument, IsStatement, is_mark, first_word, written_rest, ended, written}
 use Rattle.qasm_forms.specs.Cutting.{begins_left}
 use Rattle.qasm_forms.specs.Private.Parsing.{statement_at}
@@ -203,4 +204,4 @@ module _ (limit : ℕ) where
   every_reading text =
       let t = tokens_exist text in
       let r = every_parts (parts_of (lexemes_of text t.0) t.1) in
-      (r.0, record { tokens = t.0; bad = t.1; are_tokens = t.2; reads = r.1 })
+      (r.0, record { lexemes = lexemes_of text t.0; bad = t.1; are_lexemes = are_lexemes text t.0 t.1 t.2; reads = r.1 })

@@ -1,8 +1,8 @@
 -- A text reads in one way.
 use Rattle.std.proofs.Common.{◌≡◌, ◌∙◌, sym, ap, refl, subst, ℕ, ◌+◌, List, [], ◌∷◌, ◌++◌, length, Option, Some, Result, Ok, Err, IfOk, IfErr, arith, append_assoc, append-nil}
 use Rattle.std.proofs.lemmas.Option.{same_Some}
-use Rattle.qasm_lex.proofs.Cuts.{tokens_same}
-use Rattle.qasm_lex.specs.Lexemes.{Lexeme, lexemes_of}
+use Rattle.qasm_lex.proofs.LexemeCuts.{lexemes_same}
+use Rattle.qasm_lex.specs.Lexemes.{Lexeme, AreLexemes}
 use Rattle.qasm_reader.specs.declared.reason.Why.{Why}
 use Rattle.qasm_reader.specs.declared.reason.ReadStop.{ReadStop}
 use Rattle.qasm_reader.specs.declared.reason.ReadStop.TheVariants.{Refused as Stopped, OutOfMemory}
@@ -115,10 +115,9 @@ reads_one limit (part ∷ parts) (refusal n v) (refusal m w) p q = reading_refus
 -- a text reads in one way
 pub one_reading : (text : List ℕ) (limit : ℕ) (a b : Reading) → ReadsAs text limit a → ReadsAs text limit b → a ≡ b
 one_reading text limit a b p q =
-    let same = tokens_same text p.tokens q.tokens p.bad q.bad p.are_tokens q.are_tokens in
-    let parts : parts_of (lexemes_of text q.tokens) q.bad ≡ parts_of (lexemes_of text p.tokens) p.bad =
-    ap (λ t. parts_of (lexemes_of text t) q.bad) (sym same.0) ∙ ap (λ e. parts_of (lexemes_of text p.tokens) e) (sym same.1) in
-    reads_one limit (parts_of (lexemes_of text p.tokens) p.bad) a b p.reads (subst (λ x. Reads limit x b) parts q.reads)
+    let same = lexemes_same text p.lexemes q.lexemes p.bad q.bad p.are_lexemes q.are_lexemes in
+    let parts : parts_of q.lexemes q.bad ≡ parts_of p.lexemes p.bad = ap (λ l. parts_of l q.bad) (sym same.0) ∙ ap (parts_of p.lexemes) (sym same.1) in
+    reads_one limit (parts_of p.lexemes p.bad) a b p.reads (subst (λ x. Reads limit x b) parts q.reads)
 
 -- what is read is the only reading
 pub says_one : (limit : ℕ) (parts : List Part) (r : Result Circuit ReadStop) → IfOk r (λ c. Reads limit parts (circuit c)) → IfErr r (λ stop. IfRefused stop (λ x. Reads limit parts (refusal x.statement x.why)))
@@ -126,3 +125,15 @@ pub says_one : (limit : ℕ) (parts : List Part) (r : Result Circuit ReadStop) �
 says_one limit parts (Ok c) found refused reading h = reads_one limit parts reading (circuit c) h found
 says_one limit parts (Err (Stopped x)) found refused reading h = reads_one limit parts reading (refusal x.statement x.why) h refused
 says_one limit parts (Err OutOfMemory) found refused reading h = tt
+
+-- what a text's lexemes read as, the text reads as
+module _ (text : List ℕ) (limit : ℕ) (lexemes : List Lexeme) (bad : Option ℕ) (are : AreLexemes text lexemes bad) where
+  pub found_so : (r : Result Circuit ReadStop) → IfOk r (λ c. Reads limit (parts_of lexemes bad) (circuit c)) → IfOk r (λ c. ReadsAs text limit (circuit c))
+  found_so (Ok c) h = record { lexemes = lexemes; bad = bad; are_lexemes = are; reads = h }
+  found_so (Err e) h = tt
+
+  pub refused_so : (r : Result Circuit ReadStop) → IfErr r (λ stop. IfRefused stop (λ x. Reads limit (parts_of lexemes bad) (refusal x.statement x.why)))
+      → IfErr r (λ stop. IfRefused stop (λ x. ReadsAs text limit (refusal x.statement x.why)))
+  refused_so (Ok c) h = tt
+  refused_so (Err (Stopped x)) h = record { lexemes = lexemes; bad = bad; are_lexemes = are; reads = h }
+  refused_so (Err OutOfMemory) h = tt

@@ -1,7 +1,6 @@
 -- What a text reads as keeps the limits of a circuit.
 use Rattle.std.proofs.Common.{◌≡◌, sym, refl, subst, ◌⊎◌, inl, inr, ◌≤◌, ℕ, List, [], ◌∷◌, ◌++◌, Option, Some, None, Result, Ok, Err, append_assoc, append-nil}
 use Rattle.gate_set.specs.Circuits.{Circuit, IsCircuit}
-use Rattle.qasm_lex.specs.Lexemes.{lexemes_of}
 use Rattle.qasm_forms.specs.Statements.{Statement, version}
 use Rattle.qasm_reader.specs.declared.reason.Why.{Why}
 use Rattle.qasm_reader.specs.declared.reason.Why.TheVariants.{BadByte, NoVersion}
@@ -64,7 +63,7 @@ module _ (limit : ℕ) (few : limit ≤ 64) where
 
   -- so does a text
   pub text_sound : (text : List ℕ) (c : Circuit) → ReadsAs text limit (circuit c) → IsCircuit c × (c.qubits ≤ limit)
-  text_sound text c r = reads_sound (parts_of (lexemes_of text r.tokens) r.bad) c r.reads
+  text_sound text c r = reads_sound (parts_of r.lexemes r.bad) c r.reads
 
 pub read_is_circuit : (text : List ℕ) (limit : ℕ) (c : Circuit) → limit ≤ 64 → ReadsAs text limit (circuit c) → IsCircuit c
 read_is_circuit text limit c few r = (text_sound limit few text c r).0

@@ -1,8 +1,7 @@
 -- The reading of a text: its circuit, or the first reason of its first bad statement.
 use Rattle.std.specs.Prelude.{◌≡◌, ℕ, ◌+◌, List, [], ◌∷◌, ◌++◌, length, Option, Result, Ok, Err}
 use Rattle.gate_set.specs.Circuits.{Circuit}
-use Rattle.qasm_lex.specs.declared.token.Token.{Token}
-use Rattle.qasm_lex.specs.Lexemes.{AreTokens, lexemes_of}
+use Rattle.qasm_lex.specs.Lexemes.{Lexeme, AreLexemes}
 use Rattle.qasm_reader.specs.declared.reason.Why.{Why}
 use Rattle.qasm_reader.specs.declared.reason.Why.TheVariants.{NoVersion}
 use Rattle.qasm_reader.specs.declared.reason.Refusal.{Refusal}
@@ -51,10 +50,10 @@ Reads limit (p ∷ parts) (refusal number why) = IsRefused limit (p ∷ parts) n
 
 -- the text reads so, with at most this number of qubits
 pub record ReadsAs (text : List ℕ) (limit : ℕ) (reading : Reading) : Type 0 where
-  pub tokens : List Token
+  pub lexemes : List Lexeme
   pub bad : Option ℕ
-  pub are_tokens : AreTokens text tokens bad
-  pub reads : Reads limit (parts_of (lexemes_of text tokens) bad) reading
+  pub are_lexemes : AreLexemes text lexemes bad
+  pub reads : Reads limit (parts_of lexemes bad) reading
 
 -- what is said of the refusal, where the stop is one
 abbrev pub IfRefused : ReadStop → (Refusal → Type 0) → Type 0

@@ -1,5 +1,5 @@
 -- What the private functions that find the next piece return.
-use Rattle.std.specs.Prelude.{ℕ, ◌+◌, Bool, true, false, cond, List, [], ◌∷◌, Option, Some, None, drop, nat_eq}
+use Rattle.std.specs.Prelude.{ℕ, ◌+◌, Bool, cond, List, [], ◌∷◌, Option, Some, None, drop, nat_eq, codes}
 use Rattle.qasm_lex.specs.declared.bytes.Class.{Class}
 use Rattle.qasm_lex.specs.declared.bytes.Class.TheVariants.{Letter, LetterE, Digit, Underscore, Point, Quote, Plus, Minus, Greater, Equals, Slash, LineFeed, Blank as BlankClass, Mark as MarkClass, Other}
 use Rattle.qasm_lex.specs.declared.bytes.Part.{Part}
@@ -7,22 +7,25 @@ use Rattle.qasm_lex.specs.declared.bytes.Part.TheVariants.{Words, Digits, Quoted
 use Rattle.qasm_lex.specs.declared.token.TokenKind.TheVariants.{Word, Whole, Real, Text, Arrow, Equal, Mark}
 use Rattle.qasm_lex.specs.declared.pieces.Form.{Form}
 use Rattle.qasm_lex.specs.declared.pieces.Form.TheVariants.{Blank, Comment, Token}
-use Rattle.qasm_lex.specs.Bytes.{class_of, in_part, is_sign}
+use Rattle.qasm_lex.specs.Bytes.{none_of, is_digit, in_word}
+use Rattle.qasm_lex.specs.Private.Classes.{class_of, is_e, is_sign}
 
--- `e` and `E`
-abbrev pub is_e : Class → Bool
-is_e LetterE = true
-is_e _ = false
+-- the bytes of a run
+abbrev pub bytes_in : Part → ℕ → Bool
+bytes_in Words = in_word
+bytes_in Digits = is_digit
+bytes_in Quoted = none_of (codes "\"\n")
+bytes_in Commented = none_of (codes "\n")
 
 -- the class of the first byte, or Other where there is none
 abbrev pub front_class : List ℕ → Class
 front_class [] = Other
 front_class (b ∷ bs) = class_of b
 
--- how many bytes at the front are in the part
-unfoldable pub run : Part → List ℕ → ℕ
-run part [] = 0
-run part (b ∷ bs) = cond (in_part part (class_of b)) (run part bs + 1) 0
+-- how many bytes at the front pass the test
+unfoldable pub run : (ℕ → Bool) → List ℕ → ℕ
+run is [] = 0
+run is (b ∷ bs) = cond (is b) (run is bs + 1) 0
 
 -- how many bytes at the front are a sign, 1 or 0
 unfoldable pub sign : List ℕ → ℕ
@@ -34,13 +37,13 @@ unfoldable pub exponent : List ℕ → ℕ
 exponent [] = 0
 exponent (b ∷ after) =
     cond (is_e (class_of b))
-    (let digits = run Digits (drop (sign after) after) in cond (nat_eq digits 0) 0 (1 + sign after + digits))
+    (let digits = run is_digit (drop (sign after) after) in cond (nat_eq digits 0) 0 (1 + sign after + digits))
     0
 
 -- a number of so many digits, from after its point
 abbrev pub with_point : ℕ → List ℕ → Option (Form × ℕ)
 with_point whole after =
-    let digits = run Digits after in
+    let digits = run is_digit after in
     cond (nat_eq (whole + digits) 0) None (Some (Token Real, whole + 1 + digits + exponent (drop digits after)))
 
 -- a number of so many digits with no point
@@ -56,7 +59,7 @@ at_point whole _ after = without_point whole after
 
 -- a number
 unfoldable pub number : List ℕ → Option (Form × ℕ)
-number bs = at_point (run Digits bs) (front_class (drop (run Digits bs) bs)) (drop (run Digits bs) bs)
+number bs = at_point (run is_digit bs) (front_class (drop (run is_digit bs) bs)) (drop (run is_digit bs) bs)
 
 -- a text of so many bytes, by the class of the byte after them
 abbrev pub closed : ℕ → Class → Option (Form × ℕ)
@@ -65,7 +68,7 @@ closed n _ = None
 
 -- a text, from after its quote
 unfoldable pub quoted : List ℕ → Option (Form × ℕ)
-quoted after = closed (run Quoted after) (front_class (drop (run Quoted after) after))
+quoted after = closed (run (none_of (codes "\"\n")) after) (front_class (drop (run (none_of (codes "\"\n")) after) after))
 
 -- an arrow or a mark, by the class of the byte after the minus
 abbrev pub after_minus : Class → ℕ → Option (Form × ℕ)
@@ -79,13 +82,13 @@ after_equals _ = None
 
 -- a comment or a mark, by the class of the byte after the slash
 abbrev pub after_slash : Class → List ℕ → ℕ → Option (Form × ℕ)
-after_slash Slash after b = Some (Comment, run Commented (drop 1 after) + 2)
+after_slash Slash after b = Some (Comment, run (none_of (codes "\n")) (drop 1 after) + 2)
 after_slash _ after b = Some (Token (Mark b), 1)
 
 -- the piece that begins with a byte of this class
 abbrev pub piece_at : Class → ℕ → List ℕ → Option (Form × ℕ)
-piece_at Letter b after = Some (Token Word, run Words after + 1)
-piece_at LetterE b after = Some (Token Word, run Words after + 1)
+piece_at Letter b after = Some (Token Word, run in_word after + 1)
+piece_at LetterE b after = Some (Token Word, run in_word after + 1)
 piece_at Digit b after = number (b ∷ after)
 piece_at Point b after = number (b ∷ after)
 piece_at Quote b after = quoted after
