@@ -4,6 +4,7 @@ pub mod Choosing
 pub mod Calls
 pub mod Cofactoring
 pub mod Connecting
+pub mod Ending
 pub mod Flipping
 pub mod Making
 pub mod Marks
