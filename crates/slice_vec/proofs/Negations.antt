@@ -54,7 +54,7 @@ odd_negated : (f : Function) (a : Digits) (i : ℕ) → odd (a i) f (one_carry f
 unfolding odd negated flipped xor_of
 odd_negated f a i = refl
 
-module _ (u v : StoreAndCache) (n : ℕ) (xs ns : List ℕ) (m i an : ℕ) (place : IsAtBit u v n xs ns m i an) where
+module _ {u v : StoreAndCache} {n : ℕ} {xs ns : List ℕ} {m i an : ℕ} (place : IsAtBit u v n xs ns m i an) where
   pub a_denotes : Denotes v.store an (digits_of u.store xs i)
   a_denotes = bit_denotes u v (InNegation u.store n xs) xs i an place.began place.negates.grows place.stands place.a_is
 

@@ -51,7 +51,7 @@ wanted_sum vs w i a b p less h = some_right vs (first_bits w (carry a b)) (first
 wanted_carry : (vs : List ℕ) (w i : ℕ) (a b : Digits) (p : Function) → i < w → IsPrefixOf vs (carry a b i) p → IsPrefixOfSome vs (sum_functions w a b) p
 wanted_carry vs w i a b p less h = some_left vs (first_bits w (carry a b)) (first_bits w (sum a b)) p (some_bit vs w i (carry a b) p less h)
 
-module _ (u v : StoreAndCache) (xs ys ns : List ℕ) (m i an bn : ℕ) (place : IsAtPlace u v xs ys ns m i an bn) where
+module _ {u v : StoreAndCache} {xs ys ns : List ℕ} {m i an bn : ℕ} (place : IsAtPlace u v xs ys ns m i an bn) where
   pub a_denotes : Denotes v.store an (digits_of u.store xs i)
   a_denotes = bit_denotes u v (InSum u.store xs ys) xs i an place.began place.ripples.grows place.stands_x place.a_is
 
