@@ -23,6 +23,7 @@ use Rattle.diagram_ops.proofs.Connecting.{connected_fixes, short_result}
 use Rattle.diagram_ops.proofs.Restricting.{from_place, put_both}
 use Rattle.diagram_ops.proofs.Results.{Fixes, IsPartAt, IsParted, parted, put_same}
 use Rattle.diagram_ops.proofs.Splits.{three}
+use Rattle.diagram_ops.proofs.Cases.{of_three}
 
 at_point : (f g : Function) → f ≡ g → (x : Assignment) → f x ≡ g x
 at_point f g e x = ap (λ (w : Function). w x) e
@@ -248,14 +249,7 @@ none_placed d at r None s seen lt = inr (inl (placed_some d at.g r s seen lt))
 
 choice_is : (a b c : Bool) → connective 202 a b c ≡ cond a b c
 unfolding connective
-choice_is false false false = refl
-choice_is false false true = refl
-choice_is false true false = refl
-choice_is false true true = refl
-choice_is true false false = refl
-choice_is true false true = refl
-choice_is true true false = refl
-choice_is true true true = refl
+choice_is = of_three (λ a b c. connective 202 a b c ≡ cond a b c) refl refl refl refl refl refl refl refl
 
 -- one function in both places of a choice
 pub both_exchanged : (v : ℕ) (c f : Function) → connected 202 c (flip v f) f ≡ exchanged v c f

@@ -1,5 +1,6 @@
 -- Lemmas, by what they speak of.
 pub mod Bounds
+pub mod Cases
 pub mod Choosing
 pub mod Calls
 pub mod Cofactoring

@@ -5,7 +5,8 @@ use Rattle.diagram_ops.specs.Bounds.{TakesAtMost}
 use Rattle.slice_vec.specs.Bounds.{total, negating, negation_steps}
 use Rattle.slice_vec.specs.Slices.{InNegation, digits_of}
 use Rattle.slice_vec.proofs.Bits.{bit_denotes}
-use Rattle.slice_vec.proofs.Negations.{Negates, IsAtBit, negates_none, bit_grows, bit_stops, negates_more, sign_grows, sign_stops, negation_done, bit_steps, both_steps, sign_steps}
+use Rattle.slice_vec.proofs.Carried.{place_grows, place_stops, carries_more, top_grows, top_stops}
+use Rattle.slice_vec.proofs.Negations.{Negates, IsAtBit, negates_none, bit_is, next_is, negation_done, bit_steps, both_steps, sign_steps}
 use Rattle.slice_vec.proofs.Bounds.{steps_none, steps_begin, steps_place, steps_stop, steps_all, steps_then}
 use Rattle.slice_vec.proofs.negation.negate_where.Given.{Over}
 use Rattle.slice_vec.proofs.negation.negate_where.Goals.{After-negate_bits, After-odd}
@@ -71,8 +72,8 @@ returns-in_err-place g c =
     let p = err_from_is_err_and c.from_residual-in_err-place.result c.from_residual-in_err-place.ensures.1 in
     rw (p.1, p.2) (record {
       negation = tt;
-      grows = bit_grows place c.negate_bits.new.d less c.negate_bits.ensures.grows;
-      stop = bit_stops place c.negate_bits.new.d less c.in_err-place.field-0.0 c.in_err-place.ensures.stop;
+      grows = place_grows place.negates place.at (bit_is place) (next_is place) c.negate_bits.new.d (omega (arith, less)) c.negate_bits.ensures.grows;
+      stop = place_stops place.negates place.at (bit_is place) (next_is place) c.negate_bits.new.d (omega (arith, less)) c.in_err-place.field-0.0 c.in_err-place.ensures.stop;
       steps = steps_stop (bit_steps u.store n xs) c.loop-i.i k (negating u.store (function_of u.store n) (digits_of u.store xs) k) u.store c.loop-i.d.store c.negate_bits.new.d.store c.args.steps.now c.loop-i.steps c.negate_bits.new.steps less c.loop-i.invariant.steps
           (both_steps place c.negate_bits.new.d c.loop-i.steps c.negate_bits.new.steps c.negate_bits.ensures.steps);
     })
@@ -85,7 +86,7 @@ loop-i-preserved g c =
     record {
       count = omega (arith, ap length c.push.ensures.nodes, length-append c.loop-i.row.nodes (bit ∷ []), c.loop-i.invariant.count);
       room = omega (arith, c.loop-i.invariant.room, c.push.ensures.room);
-      negates = negates_more place c.negate_bits.new.d c.push.new.self.nodes bit c.in_ok-place.place.carry.0 (within g w) c.negate_bits.ensures.grows c.in_ok-place.ensures.bit c.in_ok-place.ensures.carry c.push.ensures.nodes;
+      negates = carries_more place.negates place.at (bit_is place) (next_is place) c.negate_bits.new.d (omega (arith, within g w)) c.negate_bits.ensures.grows c.in_ok-place.ensures.bit c.in_ok-place.ensures.carry c.push.ensures.nodes;
       steps = steps_place (bit_steps u.store c.args.n.0 c.args.x.now) c.loop-i.i (c.loop-i.i + 1) u.store c.loop-i.d.store c.negate_bits.new.d.store c.args.steps.now c.loop-i.steps c.negate_bits.new.steps (omega arith) c.loop-i.invariant.steps
           (both_steps place c.negate_bits.new.d c.loop-i.steps c.negate_bits.new.steps c.negate_bits.ensures.steps);
     }
@@ -97,8 +98,8 @@ returns-in_err-top g c =
     let p = err_from_is_err_and c.from_residual-in_err-top.result c.from_residual-in_err-top.ensures.1 in
     rw (p.1, p.2) (record {
       negation = tt;
-      grows = sign_grows place c.odd.new.d c.width-width.ensures c.odd.ensures.grows;
-      stop = sign_stops place c.odd.new.d c.width-width.ensures c.in_err-top.field-0.0 c.in_err-top.ensures.stop;
+      grows = top_grows place.negates place.at (bit_is place) (next_is place) c.odd.new.d (omega (arith, c.width-width.ensures)) c.odd.ensures.grows;
+      stop = top_stops place.negates place.at (bit_is place) (next_is place) c.odd.new.d (omega (arith, c.width-width.ensures)) c.in_err-top.field-0.0 c.in_err-top.ensures.stop;
       steps = all_steps g w;
     })
 
@@ -108,7 +109,7 @@ returns g c =
     let place = at_sign g w in
     record {
       negation = negation_done place c.odd.new.d c.into_slices.result c.in_ok-top.top.0 c.width-width.ensures c.requires.width c.odd.ensures.grows c.in_ok-top.ensures.node (c.into_slices.ensures ∙ c.push-2.ensures.nodes);
-      grows = sign_grows place c.odd.new.d c.width-width.ensures c.odd.ensures.grows;
+      grows = top_grows place.negates place.at (bit_is place) (next_is place) c.odd.new.d (omega (arith, c.width-width.ensures)) c.odd.ensures.grows;
       stop = tt;
       steps = all_steps g w;
     }

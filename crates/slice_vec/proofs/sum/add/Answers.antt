@@ -4,7 +4,8 @@ use Rattle.diagram_ops.specs.Bounds.{TakesAtMost}
 use Rattle.slice_vec.specs.Bounds.{total, adding, sum_steps}
 use Rattle.slice_vec.specs.Slices.{InSum, sum_width, digits_of}
 use Rattle.slice_vec.proofs.Bits.{bit_denotes}
-use Rattle.slice_vec.proofs.Sums.{Ripples, IsAtPlace, ripples_none, place_grows, place_stops, ripples_more, top_grows, top_stops, sum_done, place_steps, both_steps, top_steps}
+use Rattle.slice_vec.proofs.Carried.{place_grows, place_stops, carries_more, top_grows, top_stops}
+use Rattle.slice_vec.proofs.Sums.{Ripples, IsAtPlace, ripples_none, place_sum, place_carry, sum_done, place_steps, both_steps, top_steps}
 use Rattle.slice_vec.proofs.Bounds.{steps_none, steps_begin, steps_place, steps_stop, steps_all, steps_then}
 use Rattle.slice_vec.proofs.sum.add.Given.{Over}
 use Rattle.slice_vec.proofs.sum.add.Goals.{After-add_bits, After-odd}
@@ -81,8 +82,8 @@ returns-in_err-place g c =
     let p = err_from_is_err_and c.from_residual-in_err-place.result c.from_residual-in_err-place.ensures.1 in
     rw (p.1, p.2) (record {
       sum = tt;
-      grows = place_grows place c.add_bits.new.d less c.add_bits.ensures.grows;
-      stop = place_stops place c.add_bits.new.d less c.in_err-place.field-0.0 c.in_err-place.ensures.stop;
+      grows = place_grows place.ripples place.at (place_sum place) (place_carry place) c.add_bits.new.d less c.add_bits.ensures.grows;
+      stop = place_stops place.ripples place.at (place_sum place) (place_carry place) c.add_bits.new.d less c.in_err-place.field-0.0 c.in_err-place.ensures.stop;
       steps = steps_stop (place_steps u.store xs ys) c.loop-i.i k (adding u.store (digits_of u.store xs) (digits_of u.store ys) k) u.store c.loop-i.d.store c.add_bits.new.d.store c.args.steps.now c.loop-i.steps c.add_bits.new.steps (omega (arith, less)) c.loop-i.invariant.steps
           (both_steps place c.add_bits.new.d c.loop-i.steps c.add_bits.new.steps c.add_bits.ensures.steps);
     })
@@ -95,7 +96,7 @@ loop-i-preserved g c =
     record {
       count = omega (arith, ap length c.push.ensures.nodes, length-append c.loop-i.row.nodes (bit ∷ []), c.loop-i.invariant.count);
       room = omega (arith, c.loop-i.invariant.room, c.push.ensures.room);
-      ripples = ripples_more place c.add_bits.new.d c.push.new.self.nodes bit c.in_ok-place.place.carry.0 (within g w) c.add_bits.ensures.grows c.in_ok-place.ensures.bit c.in_ok-place.ensures.carry c.push.ensures.nodes;
+      ripples = carries_more place.ripples place.at (place_sum place) (place_carry place) c.add_bits.new.d (within g w) c.add_bits.ensures.grows c.in_ok-place.ensures.bit c.in_ok-place.ensures.carry c.push.ensures.nodes;
       steps = steps_place (place_steps u.store c.args.x.now c.args.y.now) c.loop-i.i (c.loop-i.i + 1) u.store c.loop-i.d.store c.add_bits.new.d.store c.args.steps.now c.loop-i.steps c.add_bits.new.steps (omega arith) c.loop-i.invariant.steps
           (both_steps place c.add_bits.new.d c.loop-i.steps c.add_bits.new.steps c.add_bits.ensures.steps);
     }
@@ -118,8 +119,8 @@ returns-in_err-top g c =
     let p = err_from_is_err_and c.from_residual-in_err-top.result c.from_residual-in_err-top.ensures.1 in
     rw (p.1, p.2) (record {
       sum = tt;
-      grows = top_grows place c.odd.new.d (omega (arith, less)) c.odd.ensures.grows;
-      stop = top_stops place c.odd.new.d (omega (arith, less)) c.in_err-top.field-0.0 c.in_err-top.ensures.stop;
+      grows = top_grows place.ripples place.at (place_sum place) (place_carry place) c.odd.new.d (omega (arith, less)) c.odd.ensures.grows;
+      stop = top_stops place.ripples place.at (place_sum place) (place_carry place) c.odd.new.d (omega (arith, less)) c.in_err-top.field-0.0 c.in_err-top.ensures.stop;
       steps = all_steps g w;
     })
 
@@ -129,7 +130,7 @@ returns g c =
     let place = at_top g w in let less = wide g w in
     record {
       sum = sum_done place c.odd.new.d c.into_slices.result c.in_ok-top.top.0 less c.requires.width_x c.requires.width_y c.odd.ensures.grows c.in_ok-top.ensures.node (c.into_slices.ensures ∙ c.push-2.ensures.nodes);
-      grows = top_grows place c.odd.new.d (omega (arith, less)) c.odd.ensures.grows;
+      grows = top_grows place.ripples place.at (place_sum place) (place_carry place) c.odd.new.d (omega (arith, less)) c.odd.ensures.grows;
       stop = tt;
       steps = all_steps g w;
     }
