@@ -3,7 +3,7 @@ use Rattle.std.proofs.Common.{◌≡◌, ℕ, ◌≤◌, Bool, List, [], ◌∷�
 use Rattle.std.proofs.lemmas.List.{length-map}
 use Rattle.diagram_model.specs.Bryant.{IsIn, IsOneOf, AreDifferent}
 use Rattle.diagram_model.specs.Functions.{Function}
-use Rattle.diagram_model.specs.Joint.{Trio, trio_truths, joint_size, IsTrioFrom}
+use Rattle.diagram_model.specs.Joint.{trio_truths, joint_size}
 use Rattle.diagram_model.specs.Size.{truths, size}
 use Rattle.diagram_model.specs.Stores.{Diagram, IsLive, IsSound, Extends, function_of}
 use Rattle.diagram_model.proofs.Counting.{counted_lists, counted_whole, counted_length}
@@ -18,7 +18,7 @@ use Rattle.diagram_ops.specs.Operands.{AreLive, alone}
 use Rattle.diagram_ops.specs.Operations.{Results}
 use Rattle.diagram_ops.specs.Taken.{Reading, Kind, plain, trio_by, IsMet, IsAmong, AreDistinct, Takes}
 use Rattle.diagram_ops.proofs.Calls.{operands_eq}
-use Rattle.diagram_ops.proofs.Taking.{takes_as}
+use Rattle.diagram_ops.proofs.Taking.{order_same, takes_as}
 use Rattle.diagram_ops.proofs.Readings.{Tells}
 
 -- Different triples of nodes have different marks, so they are at most as many as the marks.
@@ -39,9 +39,6 @@ module _ (mark : Operands → List Bool) (Is : Operands → Type 0) (tells : (x 
   marks_few xs ls once all =
       let few = different_few (map mark xs) ls (marks_different xs once (λ x h. (all x h).0)) (λ l h. let r = marked xs l h in rw r.2 (all r.0 r.1).1) in
       omega (arith, few, length-map xs mark)
-
-order_same : (vs ws : List ℕ) (t u : Trio) → vs ≡ ws → IsTrioFrom (length vs) vs t u → IsTrioFrom (length ws) ws t u
-order_same vs ws t u e h = rw (sym e) h
 
 one_triple : (r : Reading) (e : Diagram) (x y : Operands) → IsSound e → Tells r e → AreLive e x → AreLive e y → trio_truths (length e.order) (trio_by r e x) ≡ trio_truths (length e.order) (trio_by r e y) → x ≡ y
 one_triple r e x y se tells lx ly same =

@@ -16,10 +16,6 @@ use Rattle.diagram_ops.proofs.Results.{Fixes, IsParted, IsStep, same_store, live
 use Rattle.diagram_ops.proofs.Splits.{three}
 use Rattle.diagram_ops.proofs.Making.{makes_then, makes_wider, stop_wider, part_of_whole, whole_made}
 
--- what a memo answered is what is kept
-pub unmet_before : (es : Results) (at : Operands) (o : Option ℕ) → o ≡ es at → o ≡ None → es at ≡ None
-unmet_before es at o same none = sym same ∙ none
-
 -- a call begins: what is known of its operands and their split
 pub record Begins (op : Operation) (d : Diagram) (at : Operands) (s : Split) : Type 0 where
   pub sound : IsSound d
@@ -149,12 +145,12 @@ operands_eq at to e = ap (λ k. three k to.g to.h) e.0 ∙ ap (λ k. three at.f 
 abbrev pub KeepsOthers : Operands → Results → Results → Type 0
 KeepsOthers at old new = (to : Operands) → (to.f ≢ at.f) ⊎ ((to.g ≢ at.g) ⊎ (to.h ≢ at.h)) → new to ≡ old to
 
-some_number : (m n : ℕ) → Some m ≡ Some n → m ≡ n
+pub some_number : (m n : ℕ) → Some m ≡ Some n → m ≡ n
 some_number m n e = cc
 
-no_number : (o : Option ℕ) (n : ℕ) → o ≡ Some n → o ≡ None → ⊥
-no_number None n p q = absurd (cc)
-no_number (Some m) n p q = absurd (cc)
+pub some_none : (o : Option ℕ) (n : ℕ) → o ≡ Some n → o ≡ None → ⊥
+some_none None n p q = absurd (cc)
+some_none (Some m) n p q = absurd (cc)
 
 -- the result n of the whole is put for other operands too
 pub record PutsHere (op : Operation) (d m : Diagram) (at : Operands) (n : ℕ) (old new : Results) (to : Operands) : Type 0 where
@@ -199,10 +195,6 @@ keeps_put_as op at d m n m0 m2 m3 kept puts = record {
       let there = kept.still to i was in
       elim (puts to) [
         | inl same ↦ same ∙ there
-        | inr put ↦ absurd (no_number (m2 to) i there put.none)
+        | inr put ↦ absurd (some_none (m2 to) i there put.none)
       ];
 }
-
-pub keeps_put : (op : Operation) (at : Operands) (d m : Diagram) (n : ℕ) (m0 m2 m3 : Results) → Keeps op at d m m0 m2 → IsResult op m at n → m2 at ≡ None → m3 at ≡ Some n → KeepsOthers at m2 m3 → Keeps op at d m m0 m3
-keeps_put op at d m n m0 m2 m3 kept is none here others =
-    keeps_put_as op at d m n m0 m2 m3 kept (puts_one op d m at n m2 m3 is none here others)

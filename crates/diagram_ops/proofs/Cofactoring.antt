@@ -1,5 +1,5 @@
 -- Cofactors of a list of nodes, one after another.
-use Rattle.std.proofs.Common.{◌≡◌, ◌⊎◌, ℕ, zero, suc, ◌+◌, ◌<◌, Bool, List, [], ◌∷◌, ◌++◌, length, get_or, inl, inr, refl, sym, ◌∙◌, ap, arith, length-append}
+use Rattle.std.proofs.Common.{◌≡◌, ◌⊎◌, ℕ, zero, suc, ◌<◌, Bool, List, [], ◌∷◌, ◌++◌, length, get_or, inl, inr, refl, sym, ◌∙◌, ap, arith, length-append}
 use Rattle.std.proofs.lemmas.Bool.{cases_eq}
 use Rattle.std.proofs.lemmas.List.{get_or_append_left, get_or_push}
 use Rattle.diagram_model.specs.Bryant.{IsOneOf}
@@ -10,7 +10,7 @@ use Rattle.node_store.specs.declared.node.Node.{Node}
 use Rattle.node_store.specs.declared.node.StoreStop.{StoreStop}
 use Rattle.diagram_ops.specs.declared.operands.Operands.{Operands}
 use Rattle.diagram_ops.specs.Bounds.{size_in, TakesAtMost}
-use Rattle.diagram_ops.specs.Cofactors.{numbers_of, functions_of, cofactors_of, AreAllLive, InCofactors, AreCofactors}
+use Rattle.diagram_ops.specs.Cofactors.{numbers_of, functions_of, cofactors_of, AreAllLive, InCofactors}
 use Rattle.diagram_ops.specs.Keeping.{IsPart, Keeps}
 use Rattle.diagram_ops.specs.Made.{MakesOnly, StopIs, IsPrefixOfSome}
 use Rattle.diagram_ops.specs.Operands.{alone}
@@ -49,6 +49,13 @@ pub record Restricts (v : ℕ) (b : Bool) (d : Diagram) (fs : List ℕ) (m0 : Re
   pub denote : (i : ℕ) → i < length ns → function_of e (get_or ns i 0) ≡ fix v b (function_of d (get_or fs i 0))
   pub takes : TakesAll (IsMetFrom d (functions_of d fs)) d e m0 m s t
 
+-- what each way out leaves
+pub record Leaves (v : ℕ) (b : Bool) (d : Diagram) (fs : List ℕ) (e : Diagram) (s t : ℕ) : Type 0 where
+  pub sound : IsSound e
+  pub extends : Extends d e
+  pub made : MakesOnly d e (InCofactors v b d fs)
+  pub steps : TakesAtMost (size_in d (functions_of d fs)) d e s t
+
 pub restricts_none : (v : ℕ) (b : Bool) (d : Diagram) (fs : List ℕ) (m : Results) (s : ℕ) → IsSound d → AreResults (restricted v b) d m → Restricts v b d fs m d m [] s s
 restricts_none v b d fs m s sound results = record {
   sound = sound;
@@ -64,7 +71,7 @@ restricts_none v b d fs m s sound results = record {
 prefix_as : (us vs : List ℕ) (f g p : Function) → us ≡ vs → f ≡ g → IsPrefixOf vs g p → IsPrefixOf us f p
 prefix_as us vs f g p ev ef h = rw (ev, ef) h
 
-module _ (v : ℕ) (b : Bool) (d : Diagram) (fs : List ℕ) (m0 : Results) (e : Diagram) (m : Results) (ns : List ℕ) (s t : ℕ) (sd : IsSound d) (live : AreAllLive d fs) (h : Restricts v b d fs m0 e m ns s t) (i : ℕ) (lt : i < length fs) (f : ℕ) (at : f ≡ get_or fs i 0) where
+module _ {v : ℕ} {b : Bool} {d : Diagram} {fs : List ℕ} {m0 : Results} {e : Diagram} {m : Results} {ns : List ℕ} {s t : ℕ} (sd : IsSound d) (live : AreAllLive d fs) (h : Restricts v b d fs m0 e m ns s t) {i f : ℕ} (lt : i < length fs) (at : f ≡ get_or fs i 0) where
   f_live : IsLive d f
   f_live = rw at (live i lt)
 
@@ -91,25 +98,26 @@ module _ (v : ℕ) (b : Bool) (d : Diagram) (fs : List ℕ) (m0 : Results) (e : 
   list_on k sk ext to from = record { root = from.root; one = from.one; met = met_on plain d (alone from.root) e k to h.sound sk ext from.met }
 
   -- the next call, whether it answers or stops
-  module _ (k : Diagram) (m1 : Results) (keeps : Keeps (restricted v b) (alone f) e k m m1) where
-    pub next_extends : Extends d k
-    next_extends = extends_trans d e k h.extends keeps.extends
-
-    pub next_made : MakesOnly d k (InCofactors v b d fs)
-    next_made = makes_then d e k (InCofactors v b d fs) h.sound keeps.sound keeps.extends h.made (makes_wider e k (IsPart (restricted v b) e (alone f)) (InCofactors v b d fs) (λ p q. wanted p q) keeps.made)
+  module _ {k : Diagram} {m1 : Results} (keeps : Keeps (restricted v b) (alone f) e k m m1) where
+    pub next_leaves : {u : ℕ} → Takes (IsMet plain e (alone f)) e k m t u → Leaves v b d fs k s u
+    next_leaves {u} taken =
+        let extends = extends_trans d e k h.extends keeps.extends in
+        record {
+          sound = keeps.sound;
+          extends = extends;
+          made = makes_then d e k (InCofactors v b d fs) h.sound keeps.sound keeps.extends h.made (makes_wider e k (IsPart (restricted v b) e (alone f)) (InCofactors v b d fs) (λ p q. wanted p q) keeps.made);
+          steps = takes_size d (functions_of d fs) k m0 s u sd keeps.sound extends
+              (takes_then (IsMetFrom d (functions_of d fs)) d e k m0 m s t u (list_on k keeps.sound keeps.extends) h.still h.takes
+              (takes_as (IsMet plain e (alone f)) (IsMetFrom d (functions_of d fs)) e k m t u (from_list k) taken));
+        }
 
     pub next_stop : (r : StoreStop) → StopIs k (IsPart (restricted v b) e (alone f)) r → StopIs k (InCofactors v b d fs) r
     next_stop r stop = stop_wider k (IsPart (restricted v b) e (alone f)) (InCofactors v b d fs) (λ p q. wanted p q) r stop
 
-    pub next_steps : (u : ℕ) → Takes (IsMet plain e (alone f)) e k m t u → TakesAtMost (size_in d (functions_of d fs)) d k s u
-    next_steps u taken =
-        takes_size d (functions_of d fs) k m0 s u sd keeps.sound next_extends
-        (takes_then (IsMetFrom d (functions_of d fs)) d e k m0 m s t u (list_on k keeps.sound keeps.extends) h.still h.takes
-        (takes_as (IsMet plain e (alone f)) (IsMetFrom d (functions_of d fs)) e k m t u (from_list k) taken))
-
-    pub restricts_more : (n u : ℕ) (zs : List ℕ) → length ns ≡ i → IsResult (restricted v b) k (alone f) n → TakesAll (IsMet plain e (alone f)) e k m m1 t u → zs ≡ ns ++ n ∷ [] → Restricts v b d fs m0 k m1 zs s u
-    unfolding restricted next_extends next_made
-    restricts_more n u zs count is taken made =
+    pub restricts_more : {n u : ℕ} {zs : List ℕ} → length ns ≡ i → IsResult (restricted v b) k (alone f) n → TakesAll (IsMet plain e (alone f)) e k m m1 t u → zs ≡ ns ++ n ∷ [] → Restricts v b d fs m0 k m1 zs s u
+    unfolding restricted
+    restricts_more {n} {u} {zs} count is taken made =
+        let left = next_leaves taken.takes in
         let of_old = λ (j : ℕ) (less : j < length ns). get_or_append_left ns (n ∷ []) 0 j less in
         let cases : (j : ℕ) → j < length (ns ++ n ∷ []) → (j < length ns) ⊎ (j ≡ length ns) = λ j less.
         elim (cases_eq j (length ns)) [ inl e ↦ inr e | inr ne ↦ inl (omega (arith, less, ne, length-append ns (n ∷ []))) ] in
@@ -117,10 +125,10 @@ module _ (v : ℕ) (b : Bool) (d : Diagram) (fs : List ℕ) (m0 : Results) (e : 
         let here : function_of k n ≡ fix v b (function_of d (get_or fs i 0)) = is.denotes ∙ ap (fix v b) (function_on e k f h.sound keeps.sound keeps.extends next_live ∙ same_function) in
         let out : Restricts v b d fs m0 k m1 (ns ++ n ∷ []) s u = record {
           sound = keeps.sound;
-          extends = next_extends;
+          extends = left.extends;
           results = keeps.results;
           still = λ to j was. keeps.still to j (h.still to j was);
-          made = next_made;
+          made = left.made;
           live = λ j less. elim (cases j less) [
             | inl old ↦ rw (of_old j old) (live_on e k (get_or ns j 0) keeps.extends (h.live j old))
             | inr e ↦ rw (ap (λ w. get_or (ns ++ n ∷ []) w 0) e ∙ last) is.live
@@ -135,8 +143,10 @@ module _ (v : ℕ) (b : Bool) (d : Diagram) (fs : List ℕ) (m0 : Results) (e : 
         rw made out
 
 -- all are fixed
-pub restricts_done : (v : ℕ) (b : Bool) (d : Diagram) (fs : List ℕ) (m0 : Results) (e : Diagram) (m : Results) (ns : List ℕ) (s t : ℕ) → Restricts v b d fs m0 e m ns s t → length ns ≡ length fs → AreCofactors v b d e fs ns
-restricts_done v b d fs m0 e m ns s t h count = record { count = count; live = h.live; denote = h.denote }
-
-pub restricts_steps : (v : ℕ) (b : Bool) (d : Diagram) (fs : List ℕ) (m0 : Results) (e : Diagram) (m : Results) (ns : List ℕ) (s t : ℕ) → IsSound d → Restricts v b d fs m0 e m ns s t → TakesAtMost (size_in d (functions_of d fs)) d e s t
-restricts_steps v b d fs m0 e m ns s t sd h = takes_size d (functions_of d fs) e m0 s t sd h.sound h.extends h.takes.takes
+pub restricts_done : {v : ℕ} {b : Bool} {d : Diagram} {fs : List ℕ} {m0 : Results} {e : Diagram} {m : Results} {ns : List ℕ} {s t : ℕ} → IsSound d → Restricts v b d fs m0 e m ns s t → Leaves v b d fs e s t
+restricts_done {v} {b} {d} {fs} {m0} {e} {m} {ns} {s} {t} sd h = record {
+  sound = h.sound;
+  extends = h.extends;
+  made = h.made;
+  steps = takes_size d (functions_of d fs) e m0 s t sd h.sound h.extends h.takes.takes;
+}

@@ -1,21 +1,17 @@
 -- Connectives with a variable flipped in the second function, as operations.
-use Rattle.std.proofs.Common.{◌≡◌, ◌≢◌, ◌⊎◌, ℕ, zero, suc, ◌/◌, ◌%◌, ◌<◌, ◌≤◌, Bool, true, false, not, cond, eqb, inl, inr, refl, sym, ◌∙◌, ap, arith, eq-eqb, length, Result, Ok, Err, IfOk, IfErr, Option, Some, None, IfSome, IfNone}
+use Rattle.std.proofs.Common.{◌≡◌, ◌≢◌, ◌⊎◌, ℕ, zero, suc, ◌/◌, ◌%◌, ◌<◌, ◌≤◌, Bool, true, false, not, cond, eqb, inl, inr, refl, sym, ◌∙◌, ap, arith, eq-eqb, length, Option, Some, None, IfSome, IfNone}
 use Rattle.std.proofs.lemmas.Bool.{cases_eq, cond-true, cond-false, ne_eqb}
 use mathlib.Core.Path.{fun_ext}
 use Rattle.bit_lists.specs.Orders.{has, after, place_in}
 use Rattle.bit_lists.proofs.Variables.{has-tail}
-use Rattle.diagram_model.specs.Functions.{Assignment, Function, put, fix, IsPrefixOf}
+use Rattle.diagram_model.specs.Functions.{Assignment, Function, put, fix}
 use Rattle.diagram_model.specs.Nodes.{follow, value}
-use Rattle.diagram_model.specs.Stores.{Diagram, IsLive, IsAbove, IsSound, Extends, from, function_of}
+use Rattle.diagram_model.specs.Stores.{Diagram, IsLive, IsAbove, IsSound, from, function_of}
 use Rattle.diagram_model.proofs.Fixing.{follow_above, depth_follow, depth_falls, fix_function, ignores_above, ignores_higher, put_at}
 use Rattle.diagram_model.proofs.Prefixes.{Ignores, fix_twice}
 use Rattle.diagram_model.proofs.Values.{value-small}
-use Rattle.node_store.specs.declared.node.Node.{Node}
-use Rattle.node_store.specs.declared.node.StoreStop.{StoreStop}
 use Rattle.diagram_ops.specs.Connectives.{connective, connected}
-use Rattle.diagram_ops.specs.Flips.{flip, exchanged, flipping, flipping_of, turned_at, half_of, IsKept}
-use Rattle.diagram_ops.specs.Keeping.{IsPart}
-use Rattle.diagram_ops.specs.Made.{MakesOnly, StopIs}
+use Rattle.diagram_ops.specs.Flips.{flip, exchanged, flipping, turned_at, half_of, IsKept}
 use Rattle.diagram_ops.specs.declared.operands.Operands.{Operands}
 use Rattle.diagram_ops.specs.declared.split.Seen.{Seen}
 use Rattle.diagram_ops.specs.declared.split.Split.{Split}
@@ -25,8 +21,9 @@ use Rattle.diagram_ops.specs.Seen.{IsSeen}
 use Rattle.diagram_ops.specs.Short.{IsValuation, IsShort}
 use Rattle.diagram_ops.proofs.Connecting.{connected_fixes, short_result}
 use Rattle.diagram_ops.proofs.Restricting.{from_place, put_both}
-use Rattle.diagram_ops.proofs.Results.{Fixes, IsPartAt, IsParted, parted, put_same, result_on}
+use Rattle.diagram_ops.proofs.Results.{Fixes, IsPartAt, IsParted, parted, put_same}
 use Rattle.diagram_ops.proofs.Splits.{three}
+use Rattle.diagram_ops.proofs.Cases.{of_three}
 
 at_point : (f g : Function) → f ≡ g → (x : Assignment) → f x ≡ g x
 at_point f g e x = ap (λ (w : Function). w x) e
@@ -252,14 +249,7 @@ none_placed d at r None s seen lt = inr (inl (placed_some d at.g r s seen lt))
 
 choice_is : (a b c : Bool) → connective 202 a b c ≡ cond a b c
 unfolding connective
-choice_is false false false = refl
-choice_is false false true = refl
-choice_is false true false = refl
-choice_is false true true = refl
-choice_is true false false = refl
-choice_is true false true = refl
-choice_is true true false = refl
-choice_is true true true = refl
+choice_is = of_three (λ a b c. connective 202 a b c ≡ cond a b c) refl refl refl refl refl refl refl refl
 
 -- one function in both places of a choice
 pub both_exchanged : (v : ℕ) (c f : Function) → connected 202 c (flip v f) f ≡ exchanged v c f
@@ -269,17 +259,3 @@ both_exchanged v c f = fun_ext (λ x. choice_is (c x) (f (put x v (not (x v)))) 
     flipped_or : (x : Assignment) (b : Bool) → cond b (f (put x v (not (x v)))) (f x) ≡ f (put x v (cond b (not (x v)) (x v)))
     flipped_or x true = refl
     flipped_or x false = ap f (sym (put_same x v (x v) refl))
-
--- the connective that a call made, by the functions at its start
-pub flipping_denotes : (t v : ℕ) (d e : Diagram) (f g h : ℕ) (r : Result Node StoreStop) → IsSound d → IsSound e → Extends d e → AreLive d (three f g h) → IfOk r (λ n. IsResult (flipping t v) e (three f g h) n.0) → IfOk r (λ n. function_of e n.0 ≡ flipping_of t v d f g h)
-unfolding flipping
-flipping_denotes t v d e f g h (Ok n) sd se ext live is = is.denotes ∙ result_on (flipping t v) d e (three f g h) sd se ext live
-flipping_denotes t v d e f g h (Err s) sd se ext live is = tt
-
-pub flipping_made : (t v : ℕ) (d e : Diagram) (f g h : ℕ) → MakesOnly d e (IsPart (flipping t v) d (three f g h)) → MakesOnly d e (IsPrefixOf d.order (flipping_of t v d f g h))
-unfolding flipping
-flipping_made t v d e f g h m = m
-
-pub flipping_stop : (t v : ℕ) (d e : Diagram) (f g h : ℕ) (r : Result Node StoreStop) → IfErr r (StopIs e (IsPart (flipping t v) d (three f g h))) → IfErr r (StopIs e (IsPrefixOf d.order (flipping_of t v d f g h)))
-unfolding flipping
-flipping_stop t v d e f g h r s = s

@@ -1,9 +1,11 @@
 -- Lemmas, by what they speak of.
 pub mod Bounds
+pub mod Cases
 pub mod Choosing
 pub mod Calls
 pub mod Cofactoring
 pub mod Connecting
+pub mod Ending
 pub mod Flipping
 pub mod Making
 pub mod Marks

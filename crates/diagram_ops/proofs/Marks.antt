@@ -10,7 +10,7 @@ use Rattle.diagram_ops.specs.Marks.{counted, results_of, result_for}
 use Rattle.diagram_ops.specs.Operands.{alone}
 use Rattle.diagram_model.specs.Stores.{Diagram}
 use Rattle.diagram_ops.specs.Operations.{Operation, fixed_in, AreResults}
-use Rattle.diagram_ops.proofs.Calls.{KeepsOthers}
+use Rattle.diagram_ops.proofs.Calls.{KeepsOthers, some_none}
 
 -- a mark of another stamp has no result
 other_none : (now : ℕ) (m : Mark) → m.stamp ≢ now → counted now m ≡ None
@@ -71,10 +71,6 @@ fixed_others old new f same to (inr (inr ne)) =
 pub fixed_same : (old new : List (Option ℕ)) → ((m : ℕ) → result_for new m ≡ result_for old m) → fixed_in new ≡ fixed_in old
 fixed_same old new same = fun_ext (λ (to : Operands). ap (λ o. cond (eqb to.g 0 && eqb to.h 0) o None) (same to.f))
 
-no_some : (o : Option ℕ) (n : ℕ) → o ≡ Some n → o ≡ None → ⊥
-no_some None n p q = absurd (cc)
-no_some (Some m) n p q = absurd (cc)
-
 -- where no node has a result, each that is kept is right
 pub none_right : (op : Operation) (d : Diagram) (rs : List (Option ℕ)) → ((n : ℕ) → result_for rs n ≡ None) → AreResults op d (fixed_in rs)
-none_right op d rs none at n is = absurd (no_some (fixed_in rs at) n is (fixed_none rs none at))
+none_right op d rs none at n is = absurd (some_none (fixed_in rs at) n is (fixed_none rs none at))

@@ -1,13 +1,13 @@
 -- Cofactors as operations.
-use Rattle.std.proofs.Common.{◌≡◌, ◌≢◌, ℕ, ◌<◌, ◌≤◌, Bool, true, false, cond, eqb, List, inl, inr, refl, sym, ◌∙◌, ap, arith, eq-eqb, length, Result, Ok, Err, IfOk, IfErr}
+use Rattle.std.proofs.Common.{◌≡◌, ◌≢◌, ℕ, ◌<◌, ◌≤◌, Bool, true, false, cond, eqb, List, inl, inr, refl, sym, ◌∙◌, ap, arith, eq-eqb, length}
 use Rattle.std.proofs.lemmas.Bool.{cases_eq, cond-true, cond-false, ne_eqb}
 use mathlib.Core.Path.{fun_ext}
 use Rattle.bit_lists.specs.Orders.{has, after, place_in}
 use Rattle.bit_lists.proofs.Variables.{has-head}
 use Rattle.diagram_model.specs.declared.parts.Parts.{Parts}
-use Rattle.diagram_model.specs.Functions.{Assignment, Function, put, fix, IsPrefixOf}
+use Rattle.diagram_model.specs.Functions.{Assignment, Function, put, fix}
 use Rattle.diagram_model.specs.Nodes.{follow, IsLiveIn}
-use Rattle.diagram_model.specs.Stores.{Diagram, IsLive, IsAbove, IsSound, Extends, from, function_of}
+use Rattle.diagram_model.specs.Stores.{Diagram, IsLive, IsAbove, IsSound, from}
 use Rattle.diagram_model.proofs.Canonical.{cases_var, follow-other}
 use Rattle.diagram_model.proofs.Fixing.{follow_above, above_live, from_after, var_above, fix_function}
 use Rattle.diagram_model.proofs.Heights.{follow_none, follow_some, has_from}
@@ -18,11 +18,6 @@ use Rattle.diagram_ops.specs.declared.split.Split.{Split}
 use Rattle.diagram_ops.specs.Operands.{alone, IsSplit}
 use Rattle.diagram_ops.specs.Operations.{restricted, IsResult}
 use Rattle.diagram_ops.specs.Seen.{IsSeen, child_at}
-use Rattle.diagram_ops.specs.Keeping.{IsPart}
-use Rattle.diagram_ops.specs.Made.{MakesOnly, StopIs}
-use Rattle.diagram_model.proofs.Growing.{function_on}
-use Rattle.node_store.specs.declared.node.Node.{Node}
-use Rattle.node_store.specs.declared.node.StoreStop.{StoreStop}
 use Rattle.diagram_ops.proofs.Results.{Fixes}
 use Rattle.diagram_ops.proofs.Splits.{three, place_after, left, placed_parts}
 
@@ -116,17 +111,3 @@ other_place d f v r seen lt above e =
     let p : Parts = held.0 in
     let reads = seen.held p held.1 in
     omega (arith, above, reads.place, ap (place_in d.order) (sym reads.var ∙ e))
-
--- the cofactor that a call made, by the functions at its start
-pub restricted_denotes : (v : ℕ) (b : Bool) (d e : Diagram) (f : ℕ) (r : Result Node StoreStop) → IsSound d → IsSound e → Extends d e → IsLive d f → IfOk r (λ n. IsResult (restricted v b) e (alone f) n.0) → IfOk r (λ n. function_of e n.0 ≡ fix v b (function_of d f))
-unfolding restricted
-restricted_denotes v b d e f (Ok n) sd se ext live is = is.denotes ∙ ap (fix v b) (function_on d e f sd se ext live)
-restricted_denotes v b d e f (Err s) sd se ext live is = tt
-
-pub restricted_made : (v : ℕ) (b : Bool) (d e : Diagram) (f : ℕ) → MakesOnly d e (IsPart (restricted v b) d (alone f)) → MakesOnly d e (IsPrefixOf d.order (fix v b (function_of d f)))
-unfolding restricted
-restricted_made v b d e f h = h
-
-pub restricted_stop : (v : ℕ) (b : Bool) (d e : Diagram) (f : ℕ) (r : Result Node StoreStop) → IfErr r (StopIs e (IsPart (restricted v b) d (alone f))) → IfErr r (StopIs e (IsPrefixOf d.order (fix v b (function_of d f))))
-unfolding restricted
-restricted_stop v b d e f r h = h

@@ -13,6 +13,7 @@ use Rattle.diagram_ops.specs.Connectives.{connected}
 use Rattle.node_store.specs.declared.node.Node.{Node}
 use Rattle.node_store.specs.declared.node.StoreStop.{StoreStop}
 use Rattle.diagram_ops.specs.Diagrams.{AreRight, IsRight, with_answer}
+use Rattle.diagram_ops.proofs.Calls.{some_number}
 use Rattle.diagram_ops.proofs.Results.{result_on}
 use Rattle.diagram_ops.proofs.Splits.{three}
 
@@ -50,9 +51,6 @@ each_without d k (e ∷ es) all =
 
 abbrev pub entry : Key → ℕ → Key × ℕ
 entry k n = (k, n)
-
-some_number : (m n : ℕ) → Some m ≡ Some n → m ≡ n
-some_number m n e = cc
 
 each_found : (d : Diagram) (k : Key) (n : ℕ) (es : List (Key × ℕ)) → Each d es → value_at es k ≡ Some n → IsRight d (entry k n)
 each_found d k n [] all is = absurd (cc)

@@ -6,68 +6,32 @@ use Rattle.std.proofs.lemmas.Bool.{cases_eq, cond-true, cond-false, eq-eqb, ne_e
 use Rattle.std.proofs.lemmas.Nat.Bits.{bit_at_and, bit_at-zero}
 use Rattle.diagram_ops.specs.Connectives.{table_bit, number, connective}
 use Rattle.diagram_ops.specs.Short.{IsValuation, kept_by, kept_same, mask_of, IsShort}
+use Rattle.diagram_ops.proofs.Cases.{of_three, of_two}
 
 abbrev pub place : Bool → Bool → Bool → ℕ
 place a b c = 4 * number a + 2 * number b + number c
 
 -- bits 0 to 7 are set
 all_set : (a b c : Bool) → bit_at 255 (place a b c) ≡ 1
-all_set false false false = refl
-all_set false false true = refl
-all_set false true false = refl
-all_set false true true = refl
-all_set true false false = refl
-all_set true false true = refl
-all_set true true false = refl
-all_set true true true = refl
+all_set = of_three (λ a b c. bit_at 255 (place a b c) ≡ 1) refl refl refl refl refl refl refl refl
 
 f_bit : (a b c : Bool) → bit_at (cond a 240 15) (place a b c) ≡ 1
-f_bit false false false = refl
-f_bit false false true = refl
-f_bit false true false = refl
-f_bit false true true = refl
-f_bit true false false = refl
-f_bit true false true = refl
-f_bit true true false = refl
-f_bit true true true = refl
+f_bit = of_three (λ a b c. bit_at (cond a 240 15) (place a b c) ≡ 1) refl refl refl refl refl refl refl refl
 
 g_bit : (a b c : Bool) → bit_at (cond b 204 51) (place a b c) ≡ 1
-g_bit false false false = refl
-g_bit false false true = refl
-g_bit false true false = refl
-g_bit false true true = refl
-g_bit true false false = refl
-g_bit true false true = refl
-g_bit true true false = refl
-g_bit true true true = refl
+g_bit = of_three (λ a b c. bit_at (cond b 204 51) (place a b c) ≡ 1) refl refl refl refl refl refl refl refl
 
 h_bit : (a b c : Bool) → bit_at (cond c 170 85) (place a b c) ≡ 1
-h_bit false false false = refl
-h_bit false false true = refl
-h_bit false true false = refl
-h_bit false true true = refl
-h_bit true false false = refl
-h_bit true false true = refl
-h_bit true true false = refl
-h_bit true true true = refl
+h_bit = of_three (λ a b c. bit_at (cond c 170 85) (place a b c) ≡ 1) refl refl refl refl refl refl refl refl
 
 fg_bit : (a c : Bool) → bit_at 195 (place a a c) ≡ 1
-fg_bit false false = refl
-fg_bit false true = refl
-fg_bit true false = refl
-fg_bit true true = refl
+fg_bit = of_two (λ a c. bit_at 195 (place a a c) ≡ 1) refl refl refl refl
 
 fh_bit : (a b : Bool) → bit_at 165 (place a b a) ≡ 1
-fh_bit false false = refl
-fh_bit false true = refl
-fh_bit true false = refl
-fh_bit true true = refl
+fh_bit = of_two (λ a b. bit_at 165 (place a b a) ≡ 1) refl refl refl refl
 
 gh_bit : (a b : Bool) → bit_at 153 (place a b b) ≡ 1
-gh_bit false false = refl
-gh_bit false true = refl
-gh_bit true false = refl
-gh_bit true true = refl
+gh_bit = of_two (λ a b. bit_at 153 (place a b b) ≡ 1) refl refl refl refl
 
 kept_at : (e : ℕ → Bool) (n high low k : ℕ) → IsValuation e → bit_at (cond (e n) high low) k ≡ 1 → bit_at 255 k ≡ 1 → bit_at (kept_by n high low) k ≡ 1
 kept_at e n high low k v own all =
@@ -121,36 +85,15 @@ same_connective t s a b c e = ap (λ x. eqb x 1) e
 
 is_f : (a b c : Bool) → connective 240 a b c ≡ a
 unfolding connective
-is_f false false false = refl
-is_f false false true = refl
-is_f false true false = refl
-is_f false true true = refl
-is_f true false false = refl
-is_f true false true = refl
-is_f true true false = refl
-is_f true true true = refl
+is_f = of_three (λ a b c. connective 240 a b c ≡ a) refl refl refl refl refl refl refl refl
 
 is_g : (a b c : Bool) → connective 204 a b c ≡ b
 unfolding connective
-is_g false false false = refl
-is_g false false true = refl
-is_g false true false = refl
-is_g false true true = refl
-is_g true false false = refl
-is_g true false true = refl
-is_g true true false = refl
-is_g true true true = refl
+is_g = of_three (λ a b c. connective 204 a b c ≡ b) refl refl refl refl refl refl refl refl
 
 is_h : (a b c : Bool) → connective 170 a b c ≡ c
 unfolding connective
-is_h false false false = refl
-is_h false false true = refl
-is_h false true false = refl
-is_h false true true = refl
-is_h true false false = refl
-is_h true false true = refl
-is_h true true false = refl
-is_h true true true = refl
+is_h = of_three (λ a b c. connective 170 a b c ≡ c) refl refl refl refl refl refl refl refl
 
 module _ (t f g h : ℕ) where
   agrees : (s : ℕ) → bit_and t (mask_of f g h) ≡ bit_and s (mask_of f g h) → (e : ℕ → Bool) → IsValuation e → connective t (e f) (e g) (e h) ≡ connective s (e f) (e g) (e h)

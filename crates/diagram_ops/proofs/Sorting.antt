@@ -1,6 +1,5 @@
 -- Operands of a table that reads them in any order.
-use Rattle.std.proofs.Common.{◌≡◌, ℕ, ◌≤◌, Bool, true, false, min, max, eqb, List, Some, None, inl, inr, refl, sym, ◌∙◌, ap, subst, arith}
-use Rattle.std.specs.Prelude.{◌⊎◌}
+use Rattle.std.proofs.Common.{◌≡◌, ℕ, ◌≤◌, Bool, true, min, max, eqb, List, Some, None, inl, inr, refl, sym, ◌∙◌, ap, subst, arith}
 use Rattle.std.proofs.Math.Nat.{min-eq_left, min-eq_right, max-eq_left, max-eq_right, min-le_left, le-max_left, le_trans}
 use Rattle.std.proofs.lemmas.Bool.{cases_lt, cases_Bool, cond-true, cond-false, eqb-true, or_cases}
 use mathlib.Core.Path.{fun_ext}
@@ -15,6 +14,7 @@ use Rattle.diagram_ops.specs.Operands.{depths}
 use Rattle.diagram_ops.specs.Operations.{IsResult, AreOther, kept_in, kept_under}
 use Rattle.diagram_ops.proofs.Calls.{PutsAs, cases_at, operands_eq}
 use Rattle.diagram_ops.proofs.Splits.{three}
+use Rattle.diagram_ops.proofs.Cases.{of_three}
 
 -- what holds of three numbers holds once two neighbours are exchanged
 record Swaps (P : ℕ → ℕ → ℕ → Type 0) : Type 0 where
@@ -86,47 +86,19 @@ record IsSymmetric (t : ℕ) : Type 0 where
 
 odd_first : (a b c : Bool) → connective 150 b a c ≡ connective 150 a b c
 unfolding connective
-odd_first false false false = refl
-odd_first false false true = refl
-odd_first false true false = refl
-odd_first false true true = refl
-odd_first true false false = refl
-odd_first true false true = refl
-odd_first true true false = refl
-odd_first true true true = refl
+odd_first = of_three (λ a b c. connective 150 b a c ≡ connective 150 a b c) refl refl refl refl refl refl refl refl
 
 odd_last : (a b c : Bool) → connective 150 a c b ≡ connective 150 a b c
 unfolding connective
-odd_last false false false = refl
-odd_last false false true = refl
-odd_last false true false = refl
-odd_last false true true = refl
-odd_last true false false = refl
-odd_last true false true = refl
-odd_last true true false = refl
-odd_last true true true = refl
+odd_last = of_three (λ a b c. connective 150 a c b ≡ connective 150 a b c) refl refl refl refl refl refl refl refl
 
 majority_first : (a b c : Bool) → connective 232 b a c ≡ connective 232 a b c
 unfolding connective
-majority_first false false false = refl
-majority_first false false true = refl
-majority_first false true false = refl
-majority_first false true true = refl
-majority_first true false false = refl
-majority_first true false true = refl
-majority_first true true false = refl
-majority_first true true true = refl
+majority_first = of_three (λ a b c. connective 232 b a c ≡ connective 232 a b c) refl refl refl refl refl refl refl refl
 
 majority_last : (a b c : Bool) → connective 232 a c b ≡ connective 232 a b c
 unfolding connective
-majority_last false false false = refl
-majority_last false false true = refl
-majority_last false true false = refl
-majority_last false true true = refl
-majority_last true false false = refl
-majority_last true false true = refl
-majority_last true true false = refl
-majority_last true true true = refl
+majority_last = of_three (λ a b c. connective 232 a c b ≡ connective 232 a b c) refl refl refl refl refl refl refl refl
 
 symmetric_as : (t u : ℕ) → t ≡ u → IsSymmetric u → IsSymmetric t
 symmetric_as t u e s = subst IsSymmetric (sym e) s

@@ -1,19 +1,16 @@
 -- The triples that a call meets, put together from those of its parts.
-use Rattle.std.proofs.Common.{◌≡◌, ◌⊎◌, ℕ, ◌+◌, ◌≤◌, Bool, true, false, List, [], ◌∷◌, ◌++◌, length, Option, Some, None, Result, Ok, Err, OnOk, OnErr, IfErr, inl, inr, refl, sym, ◌∙◌, ap, subst, arith, length-append}
-use Rattle.std.specs.Prelude.{IsErrAnd}
+use Rattle.std.proofs.Common.{◌≡◌, ◌⊎◌, ℕ, ◌+◌, ◌≤◌, Bool, true, false, List, [], ◌∷◌, ◌++◌, length, Option, Some, None, inl, inr, refl, sym, ◌∙◌, ap, arith, length-append}
 use Rattle.bit_lists.specs.Orders.{has, after}
 use Rattle.diagram_model.specs.Joint.{Trio, one_depends, fix_trio, IsTrioFrom}
 use Rattle.diagram_model.specs.Stores.{Diagram, IsSound, Extends, counted}
 use Rattle.diagram_model.proofs.Joint.{TrioIgnores, from_same, trio_here, trio_fix}
-use Rattle.node_store.specs.declared.node.Node.{Node}
-use Rattle.node_store.specs.declared.node.StoreStop.{StoreStop}
 use Rattle.diagram_ops.specs.declared.operands.Operands.{Operands}
 use Rattle.diagram_ops.specs.declared.split.Split.{Split}
 use Rattle.diagram_ops.specs.Keeping.{Keeps}
 use Rattle.diagram_ops.specs.Operands.{AreLive}
 use Rattle.diagram_ops.specs.Operations.{Operation, Results}
 use Rattle.diagram_ops.specs.Taken.{Reading, Kind, trio_by, IsMet, IsAmong, AreDistinct, Takes, TakesAll}
-use Rattle.diagram_ops.proofs.Calls.{Begins, KeepsOthers, PutsAs, cases_at, operands_eq, low_live, high_live_d}
+use Rattle.diagram_ops.proofs.Calls.{Begins, some_none, low_live, high_live_d}
 use Rattle.diagram_ops.proofs.Readings.{IsRead, trio_on}
 use Rattle.diagram_ops.proofs.Results.{same_store, lives_on}
 
@@ -31,23 +28,9 @@ distinct_append (x ∷ xs) ys dx dy apart = (
 )
 
 -- results that are kept, or not
-some_none : (o : Option ℕ) (n : ℕ) → o ≡ Some n → o ≡ None → ⊥
-some_none None n p q = absurd (cc)
-some_none (Some m) n p q = absurd (cc)
-
 none_back : (o p : Option ℕ) → ((n : ℕ) → o ≡ Some n → p ≡ Some n) → p ≡ None → o ≡ None
 none_back None p on none = refl
 none_back (Some n) p on none = absurd (some_none p n (on n refl) none)
-
--- what holds in any case holds after a stop
-pub at_stop : (r : Result Node StoreStop) (P : Type 0) → P → OnErr r P
-at_stop (Ok n) P h = tt
-at_stop (Err x) P h = h
-
--- a refusal that is handed on says the same
-pub handed_on : (r : Result Node StoreStop) (x : StoreStop) (Q : StoreStop → Type 0) → IsErrAnd r (λ y. y ≡ x) → Q x → IfErr r Q
-handed_on (Ok n) x Q h q = tt
-handed_on (Err y) x Q h q = subst Q (sym h) q
 
 -- a later memo has each result of an earlier one
 abbrev pub Stays : Results → Results → Type 0
@@ -92,12 +75,7 @@ all_then Is d e k m0 m1 m2 s0 s1 s2 on still later first second = record {
   ];
 }
 
--- what a call took, on each way out
-pub takes_either : (Is : Kind) (d e : Diagram) (before later : Results) (old new : ℕ) (r : Result Node StoreStop) → OnOk r (TakesAll Is d e before later old new) → OnErr r (Takes Is d e before old new) → Takes Is d e before old new
-takes_either Is d e before later old new (Ok n) all stop = all.takes
-takes_either Is d e before later old new (Err x) all stop = stop
-
-order_same : (vs ws : List ℕ) (t u : Trio) → vs ≡ ws → IsTrioFrom (length vs) vs t u → IsTrioFrom (length ws) ws t u
+pub order_same : (vs ws : List ℕ) (t u : Trio) → vs ≡ ws → IsTrioFrom (length vs) vs t u → IsTrioFrom (length ws) ws t u
 order_same vs ws t u e h = rw (sym e) h
 
 to_same : (k : ℕ) (vs : List ℕ) (t u w : Trio) → u ≡ w → IsTrioFrom k vs t u → IsTrioFrom k vs t w
@@ -128,7 +106,7 @@ met_part r d e v b at part m to sd se ext live is same above h =
     }
 
 -- the nodes themselves are met
-met_whole : (r : Reading) (d m : Diagram) (at : Operands) (s : Split) → IsSound d → IsSound m → Extends d m → AreLive d at → IsRead r d at s → IsMet r d at m at
+pub met_whole : (r : Reading) (d m : Diagram) (at : Operands) (s : Split) → IsSound d → IsSound m → Extends d m → AreLive d at → IsRead r d at s → IsMet r d at m at
 met_whole r d m at s sd sm ext live read =
     let k = length d.order in
     let same = trio_on r d m at sd sm ext live in
@@ -138,7 +116,7 @@ met_whole r d m at s sd sm ext live read =
     }
 
 -- a count that stands still at its end rises by at most one
-one_more : (k m : Diagram) → m.made ≡ counted k.made → m.made ≤ k.made + 1
+pub one_more : (k m : Diagram) → m.made ≡ counted k.made → m.made ≤ k.made + 1
 one_more k m asked = omega (arith, asked)
 
 module _ (op : Operation) (r : Reading) (d : Diagram) (at : Operands) (s : Split) (b : Begins op d at s) (read : IsRead r d at s) where
@@ -165,45 +143,3 @@ module _ (op : Operation) (r : Reading) (d : Diagram) (at : Operands) (s : Split
     takes_all k m2 s2 second high =
         all_then (IsMet r d at) d e k m0 m1 m2 s0 s1 s2 (λ to h. met_on r d at e k to first.sound second.sound second.extends h) first.still second.still (all_low e m0 m1 s0 s1 low)
         (all_as (IsMet r e s.high) (IsMet r d at) e k m1 m2 s1 s2 (λ to h. from_high k to h) high)
-
-  -- the whole, after its parts
-  pub takes_whole : (k m : Diagram) (m0 m2 : Results) (s0 s2 s3 : ℕ) → TakesAll (IsMet r d at) d k m0 m2 s0 s2 → IsSound k → IsSound m → Extends k m → Extends d m → m0 at ≡ None → m2 at ≡ None → s3 ≡ s2 + 1 → m.made ≡ counted k.made → Takes (IsMet r d at) d m m0 s0 s3
-  takes_whole k m m0 m2 s0 s2 s3 t sk sm ext dm new none one asked = record {
-    met = at ∷ t.takes.met;
-    once = (λ h. some_none (m2 at) (t.kept at h).0 (t.kept at h).1 none, t.takes.once);
-    fresh = λ to h. elim h [ inl e ↦ ap m0 e ∙ new | inr more ↦ t.takes.fresh to more ];
-    arise = λ to h. elim h [
-      | inl e ↦ rw e (met_whole r d m at s b.sound sm dm b.live read)
-      | inr more ↦ met_on r d at k m to sk sm ext (t.takes.arise to more)
-    ];
-    count = omega (arith, t.takes.count, one);
-    made = omega (arith, t.takes.made, one_more k m asked);
-  }
-
-  -- the result of the whole is kept, for other operands too
-  pub takes_put_as : (k m : Diagram) (m0 m2 m3 : Results) (n s0 s2 s3 : ℕ) → TakesAll (IsMet r d at) d k m0 m2 s0 s2 → IsSound k → IsSound m → Extends k m → Extends d m → m0 at ≡ None → m2 at ≡ None → s3 ≡ s2 + 1 → m.made ≡ counted k.made → m3 at ≡ Some n → ((to : Operands) → PutsAs op d m at n m2 m3 to) → TakesAll (IsMet r d at) d m m0 m3 s0 s3
-  unfolding takes_whole
-  takes_put_as k m m0 m2 m3 n s0 s2 s3 t sk sm ext dm new none one asked here puts = record {
-    takes = takes_whole k m m0 m2 s0 s2 s3 t sk sm ext dm new none one asked;
-    kept = λ to h. elim h [
-      | inl e ↦ (n, ap m3 e ∙ here)
-      | inr more ↦ elim (puts to) [
-        | inl same ↦ let was = t.kept to more in (was.0, same ∙ was.1)
-        | inr put ↦ (n, put.now)
-      ]
-    ];
-  }
-
-  -- the result of the whole is kept
-  pub takes_put : (k m : Diagram) (m0 m2 m3 : Results) (n s0 s2 s3 : ℕ) → TakesAll (IsMet r d at) d k m0 m2 s0 s2 → IsSound k → IsSound m → Extends k m → Extends d m → m0 at ≡ None → m2 at ≡ None → s3 ≡ s2 + 1 → m.made ≡ counted k.made → m3 at ≡ Some n → KeepsOthers at m2 m3 → TakesAll (IsMet r d at) d m m0 m3 s0 s3
-  unfolding takes_whole
-  takes_put k m m0 m2 m3 n s0 s2 s3 t sk sm ext dm new none one asked here others = record {
-    takes = takes_whole k m m0 m2 s0 s2 s3 t sk sm ext dm new none one asked;
-    kept = λ to h. elim h [
-      | inl e ↦ (n, ap m3 e ∙ here)
-      | inr more ↦ elim (cases_at at to) [
-        | inl e ↦ (n, ap m3 (operands_eq at to e) ∙ here)
-        | inr ne ↦ let was = t.kept to more in (was.0, others to ne ∙ was.1)
-      ]
-    ];
-  }

@@ -8,6 +8,7 @@ pub mod Keys
 pub mod Lending
 pub mod Made
 -- Words of private functions:
+pub mod Ends
 pub mod Keeping
 pub mod Marks
 pub mod Operands

@@ -1,14 +1,13 @@
 //! Connectives of three nodes of a store.
-ghost use Rattle.std.specs.Prelude.{◌≡◌, ◌⊎◌, ◌+◌, ◌<◌, ◌≤◌, IfOk, OnOk, OnErr, IfErr, Some, None, length};
+ghost use Rattle.std.specs.Prelude.{◌≡◌, IfOk, OnOk, OnErr, IfErr, Some, None};
 ghost use Rattle.diagram_ops.specs.declared.operands.Operands.{Operands};
 ghost use Rattle.diagram_model.specs.Stores.{IsSound};
 ghost use Rattle.diagram_ops.specs.Connectives.{connected};
+ghost use Rattle.diagram_ops.specs.Ends.{Answers, Stops};
 ghost use Rattle.diagram_ops.specs.Keys.{keyed};
-ghost use Rattle.diagram_ops.specs.Keeping.{IsPart, Keeps};
-ghost use Rattle.diagram_ops.specs.Made.{StopIs};
 ghost use Rattle.diagram_ops.specs.Operands.{AreLive};
-ghost use Rattle.diagram_ops.specs.Operations.{IsResult, AreResults, AreOther, kept_under};
-ghost use Rattle.diagram_ops.specs.Taken.{plain, IsMet, Takes, TakesAll};
+ghost use Rattle.diagram_ops.specs.Operations.{AreResults, AreOther, kept_under};
+ghost use Rattle.diagram_ops.specs.Taken.{plain};
 
 use crate::operands::Operands;
 use crate::short::short_cut;
@@ -51,11 +50,8 @@ pub fn connect<L: Ledger>(
     requires sound { IsSound store.old }
     requires live { AreLive store.old at }
     requires results { AreResults (connected table) store.old (kept_under table memo.old) }
-    ensures keeps { Keeps (connected table) at store.old store.new (kept_under table memo.old) (kept_under table memo.new) }
-    ensures result { IfOk result (λ n. IsResult (connected table) store.new at n.0) }
-    ensures stop { IfErr result (StopIs store.new (IsPart (connected table) store.old at)) }
-    ensures steps { OnOk result (TakesAll (IsMet plain store.old at) store.old store.new (kept_under table memo.old) (kept_under table memo.new) steps.old steps.new) }
-    ensures stop_steps { OnErr result (Takes (IsMet plain store.old at) store.old store.new (kept_under table memo.old) steps.old steps.new) }
+    ensures answers { IfOk result (λ n. Answers (connected table) plain at store.old store.new (kept_under table memo.old) (kept_under table memo.new) steps.old steps.new n.0) }
+    ensures stops { IfErr result (Stops (connected table) plain at store.old store.new (kept_under table memo.old) (kept_under table memo.new) steps.old steps.new) }
 {
     if let Some(short) = short_cut(table, at) {
         return Ok(Node(short));

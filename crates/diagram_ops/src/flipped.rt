@@ -1,12 +1,10 @@
 //! Connectives of three nodes with a variable flipped in the second one, in one walk.
-ghost use Rattle.std.specs.Prelude.{◌≡◌, ◌⊎◌, ◌+◌, ◌<◌, ◌≤◌, IfOk, OnOk, OnErr, IfErr, IfSome, IfNone, length};
+ghost use Rattle.std.specs.Prelude.{◌≡◌, ◌⊎◌, ◌<◌, ◌≤◌, IfOk, IfErr, IfSome, IfNone, length};
 ghost use Rattle.diagram_model.specs.Stores.{IsSound};
+ghost use Rattle.diagram_ops.specs.Ends.{Answers, Stops};
 ghost use Rattle.diagram_ops.specs.Flips.{flip, flipping, half_of, turned_at, IsKept};
-ghost use Rattle.diagram_ops.specs.Keeping.{IsPart, Keeps};
-ghost use Rattle.diagram_ops.specs.Made.{StopIs};
 ghost use Rattle.diagram_ops.specs.Operands.{AreLive};
 ghost use Rattle.diagram_ops.specs.Operations.{IsResult, AreResults, kept_in};
-ghost use Rattle.diagram_ops.specs.Taken.{IsMet, Takes, TakesAll};
 
 use crate::operands::Operands;
 use crate::short::short_cut;
@@ -94,11 +92,8 @@ pub fn connect_flipped<L: Ledger>(
     requires live { AreLive store.old at }
     requires var { var < length store.old.order }
     requires results { AreResults (flipping table var) store.old (kept_in memo.old) }
-    ensures keeps { Keeps (flipping table var) at store.old store.new (kept_in memo.old) (kept_in memo.new) }
-    ensures result { IfOk result (λ n. IsResult (flipping table var) store.new at n.0) }
-    ensures stop { IfErr result (StopIs store.new (IsPart (flipping table var) store.old at)) }
-    ensures steps { OnOk result (TakesAll (IsMet (flip var) store.old at) store.old store.new (kept_in memo.old) (kept_in memo.new) steps.old steps.new) }
-    ensures stop_steps { OnErr result (Takes (IsMet (flip var) store.old at) store.old store.new (kept_in memo.old) steps.old steps.new) }
+    ensures answers { IfOk result (λ n. Answers (flipping table var) (flip var) at store.old store.new (kept_in memo.old) (kept_in memo.new) steps.old steps.new n.0) }
+    ensures stops { IfErr result (Stops (flipping table var) (flip var) at store.old store.new (kept_in memo.old) (kept_in memo.new) steps.old steps.new) }
 {
     if let Some(short) = short_flipped(store, table, var, at) {
         return Ok(Node(short));

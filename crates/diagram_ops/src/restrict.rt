@@ -1,14 +1,14 @@
 //! Cofactors: what is left of a function once a variable is fixed.
-ghost use Rattle.std.specs.Prelude.{◌≡◌, ◌<◌, ◌∷◌, [], ◌++◌, ℕ, None, IfOk, OnOk, OnErr, IfErr, length, slice_index_or};
+ghost use Rattle.std.specs.Prelude.{◌≡◌, ◌<◌, ◌∷◌, [], ◌++◌, ℕ, None, IfOk, OnOk, IfErr, length, slice_index_or};
 ghost use Rattle.diagram_model.specs.Stores.{IsSound, IsLive, Extends};
 ghost use Rattle.diagram_ops.specs.Bounds.{size_in, TakesAtMost};
 ghost use Rattle.diagram_ops.specs.Cofactors.{numbers_of, functions_of, AreAllLive, InCofactors, AreCofactors};
-ghost use Rattle.diagram_ops.specs.Keeping.{IsPart, Keeps};
+ghost use Rattle.diagram_ops.specs.Ends.{Answers, Stops};
 ghost use Rattle.diagram_ops.specs.Made.{MakesOnly, StopIs};
 ghost use Rattle.diagram_ops.specs.Marks.{result_for};
 ghost use Rattle.diagram_ops.specs.Operands.{alone};
-ghost use Rattle.diagram_ops.specs.Operations.{restricted, IsResult, AreResults, fixed_in};
-ghost use Rattle.diagram_ops.specs.Taken.{plain, IsMet, Takes, TakesAll};
+ghost use Rattle.diagram_ops.specs.Operations.{restricted, AreResults, fixed_in};
+ghost use Rattle.diagram_ops.specs.Taken.{plain};
 
 use crate::node_memo::NodeMemo;
 use crate::split::Seen;
@@ -33,11 +33,8 @@ pub fn restrict<L: Ledger>(
     requires live { IsLive store.old f }
     requires var { var < length store.old.order }
     requires results { AreResults (restricted var bit) store.old (fixed_in memo.old) }
-    ensures keeps { Keeps (restricted var bit) (alone f) store.old store.new (fixed_in memo.old) (fixed_in memo.new) }
-    ensures result { IfOk result (λ n. IsResult (restricted var bit) store.new (alone f) n.0) }
-    ensures stop { IfErr result (StopIs store.new (IsPart (restricted var bit) store.old (alone f))) }
-    ensures steps { OnOk result (TakesAll (IsMet plain store.old (alone f)) store.old store.new (fixed_in memo.old) (fixed_in memo.new) steps.old steps.new) }
-    ensures stop_steps { OnErr result (Takes (IsMet plain store.old (alone f)) store.old store.new (fixed_in memo.old) steps.old steps.new) }
+    ensures answers { IfOk result (λ n. Answers (restricted var bit) plain (alone f) store.old store.new (fixed_in memo.old) (fixed_in memo.new) steps.old steps.new n.0) }
+    ensures stops { IfErr result (Stops (restricted var bit) plain (alone f) store.old store.new (fixed_in memo.old) (fixed_in memo.new) steps.old steps.new) }
 {
     let seen = Seen::new(store, f);
     let place = store.place_of(var) as u16;

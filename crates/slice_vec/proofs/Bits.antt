@@ -111,24 +111,3 @@ stands_kept d e ns k h = record { some = h.some; few = h.few; live = λ i less. 
 
 pub stands_on : (v w : StoreAndCache) (Is : Property) (ns : List ℕ) → Grows v Is w → StandsIn v.store ns → StandsIn w.store ns
 stands_on v w Is ns g h = stands_kept v.store w.store ns g.functions h
-
--- three constants stand everywhere
-pub constants_stand : (d : Diagram) (a b c : ℕ) → a < 2 → b < 2 → c < 2 → StandsIn d (a ∷ b ∷ c ∷ [])
-constants_stand d a b c la lb lc = record { some = omega arith; few = omega arith; live = at }
-  where
-    at : (i : ℕ) → i < 3 → IsLive d (get_or (a ∷ b ∷ c ∷ []) i 0)
-    at zero less = inl la
-    at (suc zero) less = inl lb
-    at (suc (suc zero)) less = inl lc
-    at (suc (suc (suc i))) less = absurd (omega (arith, less))
-
-pub bit_stands : (d : Diagram) (a b : ℕ) → IsLive d a → b < 2 → StandsIn d (a ∷ b ∷ [])
-bit_stands d a b live lb = record { some = omega arith; few = omega arith; live = at }
-  where
-    at : (i : ℕ) → i < 2 → IsLive d (get_or (a ∷ b ∷ []) i 0)
-    at zero less = live
-    at (suc zero) less = inl lb
-    at (suc (suc i)) less = absurd (omega (arith, less))
-
-pub two_stand : (d : Diagram) (a b : ℕ) → a < 2 → b < 2 → StandsIn d (a ∷ b ∷ [])
-two_stand d a b la lb = bit_stands d a b (inl la) lb

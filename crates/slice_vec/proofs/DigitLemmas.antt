@@ -8,6 +8,7 @@ use Rattle.diagram_model.specs.Functions.{Assignment, Function, fix, put}
 use Rattle.diagram_ops.specs.Connectives.{number}
 use Rattle.diagram_ops.specs.Flips.{exchanged}
 use Rattle.slice_vec.specs.Digits.{Digits, low_sum, slice_value, IsSteady, xor, majority_bit, odd_bit, majority, odd, carry, sum, xor_of, and_of, less, flipped, one_carry, negated, choice, chosen, fixed, turned}
+use Rattle.diagram_ops.proofs.Cases.{of_three, of_two}
 
 -- one place of a sum, p times
 full_adder : (p : ℕ) (a b c : Bool) → p * number a + p * number b + p * number c ≡ p * number (odd_bit a b c) + 2 * (p * number (majority_bit a b c))
@@ -87,14 +88,7 @@ value-sum k a b x sa sb =
 
 -- a sum is steady one bit later
 carry_again : (a b c : Bool) → odd_bit a b (majority_bit a b (majority_bit a b c)) ≡ odd_bit a b (majority_bit a b c)
-carry_again true true true = refl
-carry_again true true false = refl
-carry_again true false true = refl
-carry_again true false false = refl
-carry_again false true true = refl
-carry_again false true false = refl
-carry_again false false true = refl
-carry_again false false false = refl
+carry_again = of_three (λ a b c. odd_bit a b (majority_bit a b (majority_bit a b c)) ≡ odd_bit a b (majority_bit a b c)) refl refl refl refl refl refl refl refl
 
 steady_step : (a b c : Function) → odd a b (majority a b (majority a b c)) ≡ odd a b (majority a b c)
 unfolding odd majority
@@ -185,10 +179,7 @@ less_off : (b c : Bool) → c ≡ false → (c && not b) ≡ c
 less_off b c e = ap (λ d. d && not b) e ∙ sym e
 
 less_on_flip : (b c : Bool) → (c && not b) ≡ (xor b true && c)
-less_on_flip true true = refl
-less_on_flip true false = refl
-less_on_flip false true = refl
-less_on_flip false false = refl
+less_on_flip = of_two (λ b c. (c && not b) ≡ (xor b true && c)) refl refl refl refl
 
 -- the next carry is the carry where the bit is false
 pub one_carry-less : (n : Function) (a : Digits) (i : ℕ) → less (one_carry n a i) (a i) ≡ one_carry n a (suc i)
@@ -223,10 +214,7 @@ value-negated k n a x sa =
     ]
 
 one_carry_again : (f g : Bool) → xor f (f && (f && g)) ≡ xor f (f && g)
-one_carry_again true true = refl
-one_carry_again true false = refl
-one_carry_again false true = refl
-one_carry_again false false = refl
+one_carry_again = of_two (λ f g. xor f (f && (f && g)) ≡ xor f (f && g)) refl refl refl refl
 
 pub steady-negated : (k : ℕ) (n : Function) (a : Digits) → IsSteady k a → IsSteady (suc k) (negated n a)
 unfolding negated one_carry flipped xor_of and_of

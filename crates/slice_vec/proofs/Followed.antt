@@ -27,19 +27,19 @@ pub record Follows (u : StoreAndCache) (w : ℕ) (s : Digits) (v : StoreAndCache
 pub follows_none : (u : StoreAndCache) (w : ℕ) (s : Digits) → IsConsistent u → Follows u w s u []
 follows_none u w s sound = record { grows = grows_none u (IsPrefixOfSome u.store.order (first_bits w s)) sound; shows = shows_none u.store s }
 
-module _ (u : StoreAndCache) (k : ℕ) (s : Digits) (v : StoreAndCache) (ns : List ℕ) (h : Follows u k s v ns) (i : ℕ) (at : length ns ≡ i) (f : Function) (same : f ≡ s i) where
-  pub next_grows : (w : StoreAndCache) → i < k → Grows v (IsPrefixOf v.store.order f) w → Grows u (IsPrefixOfSome u.store.order (first_bits k s)) w
-  next_grows w less g =
+module _ {u : StoreAndCache} {k : ℕ} {s : Digits} {v : StoreAndCache} {ns : List ℕ} (h : Follows u k s v ns) {i : ℕ} (at : length ns ≡ i) {f : Function} (same : f ≡ s i) (less : i < k) (w : StoreAndCache) where
+  pub next_grows : Grows v (IsPrefixOf v.store.order f) w → Grows u (IsPrefixOfSome u.store.order (first_bits k s)) w
+  next_grows g =
       grows_call u v w (IsPrefixOfSome u.store.order (first_bits k s)) f (s i) h.grows g same (λ p q. some_bit u.store.order k i s p less q)
 
-  pub next_stops : (w : StoreAndCache) → i < k → (why : StoreStop) → StopIs w.store (IsPrefixOf v.store.order f) why → StopIs w.store (IsPrefixOfSome u.store.order (first_bits k s)) why
-  next_stops w less why stop =
+  pub next_stops : (why : StoreStop) → StopIs w.store (IsPrefixOf v.store.order f) why → StopIs w.store (IsPrefixOfSome u.store.order (first_bits k s)) why
+  next_stops why stop =
       stop_call u v w (IsPrefixOfSome u.store.order (first_bits k s)) f (s i) h.grows same (λ p q. some_bit u.store.order k i s p less q) why stop
 
-  pub follows_more : (w : StoreAndCache) (zs : List ℕ) (n : ℕ) → i < k → Grows v (IsPrefixOf v.store.order f) w → Denotes w.store n f → zs ≡ ns ++ n ∷ [] → Follows u k s w zs
-  follows_more w zs n less g is made =
+  pub follows_more : {zs : List ℕ} {n : ℕ} → Grows v (IsPrefixOf v.store.order f) w → Denotes w.store n f → zs ≡ ns ++ n ∷ [] → Follows u k s w zs
+  follows_more {zs} {n} g is made =
       let out : Follows u k s w (ns ++ n ∷ []) = record {
-        grows = next_grows w less g;
+        grows = next_grows g;
         shows = shows_more v w (IsPrefixOf v.store.order f) ns s n h.grows.sound g h.shows (denotes_as w.store n f (s (length ns)) (same ∙ ap s (sym at)) is);
       } in
       rw made out

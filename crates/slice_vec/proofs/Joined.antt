@@ -18,28 +18,15 @@ use Rattle.slice_vec.proofs.Bounds.{steps_as, merging_as}
 use Rattle.slice_vec.proofs.Bits.{shows_digits, shows_stands, steady-digits, steady_later}
 use Rattle.slice_vec.proofs.DigitLemmas.{steady-chosen, steady-fixed}
 use Rattle.slice_vec.proofs.Followed.{Follows}
+use Rattle.diagram_ops.proofs.Cases.{of_three}
 
 second_first : (a b c : Bool) → connective 202 a b c ≡ cond a b c
 unfolding connective
-second_first false false false = refl
-second_first false false true = refl
-second_first false true false = refl
-second_first false true true = refl
-second_first true false false = refl
-second_first true false true = refl
-second_first true true false = refl
-second_first true true true = refl
+second_first = of_three (λ a b c. connective 202 a b c ≡ cond a b c) refl refl refl refl refl refl refl refl
 
 third_first : (a b c : Bool) → connective 172 a b c ≡ cond a c b
 unfolding connective
-third_first false false false = refl
-third_first false false true = refl
-third_first false true false = refl
-third_first false true true = refl
-third_first true false false = refl
-third_first true false true = refl
-third_first true true false = refl
-third_first true true true = refl
+third_first = of_three (λ a b c. connective 172 a b c ≡ cond a c b) refl refl refl refl refl refl refl refl
 
 low_point : (v : ℕ) (f g : Function) (x : Assignment) → cond (x v) (f (put x v (not (x v)))) (g x) ≡ cond (x v) (f (put x v false)) (g (put x v false))
 low_point v f g x =

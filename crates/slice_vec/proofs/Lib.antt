@@ -1,6 +1,7 @@
 -- Lemmas, by what they speak of.
 pub mod Bits
 pub mod Bounds
+pub mod Carried
 pub mod FixedBits
 pub mod DigitLemmas
 pub mod Followed

@@ -1,20 +1,19 @@
 -- The bits of a negation, one after another.
-use Rattle.std.proofs.Common.{◌≡◌, ℕ, false, suc, ◌+◌, ◌-◌, ◌<◌, ◌≤◌, neg_ℤ, cond, List, [], ◌∷◌, ◌++◌, length, refl, sym, ◌∙◌, ap, arith, length-append}
-use Rattle.node_store.specs.declared.node.StoreStop.{StoreStop}
+use Rattle.std.proofs.Common.{◌≡◌, ℕ, false, suc, ◌+◌, ◌-◌, ◌<◌, ◌≤◌, neg_ℤ, cond, List, [], ◌∷◌, ◌++◌, length, refl, ◌∙◌, ap, arith, length-append}
 use Rattle.diagram_model.specs.Functions.{Function, IsPrefixOf}
 use Rattle.diagram_model.specs.Stores.{Diagram, IsLive, function_of}
 use Rattle.diagram_ops.specs.Diagrams.{StoreAndCache, IsConsistent}
-use Rattle.diagram_ops.specs.Made.{Property, StopIs, IsPrefixOfSome}
 use Rattle.diagram_ops.specs.Bounds.{joint_size_of, TakesAtMost}
 use Rattle.slice_vec.specs.Bounds.{negating, carrying}
 use Rattle.slice_vec.specs.Digits.{Digits, IsSteady, odd, xor_of, flipped, one_carry, negated, slice_value}
 use Rattle.slice_vec.specs.Growing.{Grows, Denotes}
 use Rattle.slice_vec.specs.Places.{odd_at, less_at}
-use Rattle.slice_vec.specs.Slices.{bit_node, digits_of, StandsIn, first_bits, negation_functions, InNegation, IsNegation}
-use Rattle.slice_vec.proofs.Bits.{Shows, shows_none, shows_more, shows_digits, shows_stands, bit_denotes, steady-digits, steady_later, value_on}
+use Rattle.slice_vec.specs.Slices.{bit_node, digits_of, StandsIn, InNegation, IsNegation}
+use Rattle.slice_vec.proofs.Bits.{Shows, shows_digits, shows_stands, bit_denotes, steady-digits, steady_later, value_on}
 use Rattle.slice_vec.proofs.Bounds.{joint_as, steps_as}
+use Rattle.slice_vec.proofs.Carried.{Carries, carries_none, top_shows}
 use Rattle.slice_vec.proofs.DigitLemmas.{value-negated, steady-negated, one_carry-less}
-use Rattle.slice_vec.proofs.Growing.{grows_none, grows_call, grows_calls, stop_call, stop_calls, some_left, some_right, some_bit, all_of_two, denotes_as, denotes_on, denotes_itself, lists_same}
+use Rattle.slice_vec.proofs.Growing.{denotes_on, denotes_itself}
 use Rattle.slice_vec.proofs.Places.{odd_same, less_same, false_function}
 
 -- the steps of place i: the bit and the carry
@@ -22,18 +21,12 @@ abbrev pub bit_steps : Diagram → ℕ → List ℕ → ℕ → ℕ
 bit_steps d n xs i = negating d (function_of d n) (digits_of d xs) i + carrying d (function_of d n) (digits_of d xs) i
 
 -- the negation so far, and the carry
-pub record Negates (u : StoreAndCache) (n : ℕ) (xs : List ℕ) (v : StoreAndCache) (ns : List ℕ) (m : ℕ) : Type 0 where
-  pub grows : Grows u (InNegation u.store n xs) v
-  pub shows : Shows v.store ns (negated (function_of u.store n) (digits_of u.store xs))
-  pub carries : Denotes v.store m (one_carry (function_of u.store n) (digits_of u.store xs) (length ns))
+abbrev pub Negates : StoreAndCache → ℕ → List ℕ → StoreAndCache → List ℕ → ℕ → Type 0
+Negates u n xs v ns m = Carries u (length xs + 1) (negated (function_of u.store n) (digits_of u.store xs)) (one_carry (function_of u.store n) (digits_of u.store xs)) v ns m
 
 pub negates_none : (u : StoreAndCache) (n : ℕ) (xs : List ℕ) → IsConsistent u → IsLive u.store n → Negates u n xs u [] n
 unfolding one_carry
-negates_none u n xs s live = record {
-  grows = grows_none u (InNegation u.store n xs) s;
-  shows = shows_none u.store (negated (function_of u.store n) (digits_of u.store xs));
-  carries = denotes_itself u.store n live;
-}
+negates_none u n xs s live = carries_none u (length xs + 1) (negated (function_of u.store n) (digits_of u.store xs)) (one_carry (function_of u.store n) (digits_of u.store xs)) n s (denotes_itself u.store n live)
 
 -- the bit at place i, and the carry
 pub record IsAtBit (u v : StoreAndCache) (n : ℕ) (xs ns : List ℕ) (m i an : ℕ) : Type 0 where
@@ -44,17 +37,11 @@ pub record IsAtBit (u v : StoreAndCache) (n : ℕ) (xs ns : List ℕ) (m i an : 
   pub at : length ns ≡ i
   pub a_is : an ≡ bit_node xs i
 
-wanted_next : (vs : List ℕ) (w i : ℕ) (f : Function) (a : Digits) (p : Function) → i < w → IsPrefixOf vs (one_carry f a i) p → IsPrefixOfSome vs (negation_functions w f a) p
-wanted_next vs w i f a p less h = some_left vs (first_bits w (one_carry f a)) (first_bits w (negated f a)) p (some_bit vs w i (one_carry f a) p less h)
-
-wanted_bit : (vs : List ℕ) (w i : ℕ) (f : Function) (a : Digits) (p : Function) → i < w → IsPrefixOf vs (negated f a i) p → IsPrefixOfSome vs (negation_functions w f a) p
-wanted_bit vs w i f a p less h = some_right vs (first_bits w (one_carry f a)) (first_bits w (negated f a)) p (some_bit vs w i (negated f a) p less h)
-
 odd_negated : (f : Function) (a : Digits) (i : ℕ) → odd (a i) f (one_carry f a i) ≡ negated f a i
 unfolding odd negated flipped xor_of
 odd_negated f a i = refl
 
-module _ (u v : StoreAndCache) (n : ℕ) (xs ns : List ℕ) (m i an : ℕ) (place : IsAtBit u v n xs ns m i an) where
+module _ {u v : StoreAndCache} {n : ℕ} {xs ns : List ℕ} {m i an : ℕ} (place : IsAtBit u v n xs ns m i an) where
   pub a_denotes : Denotes v.store an (digits_of u.store xs i)
   a_denotes = bit_denotes u v (InNegation u.store n xs) xs i an place.began place.negates.grows place.stands place.a_is
 
@@ -88,76 +75,23 @@ module _ (u v : StoreAndCache) (n : ℕ) (xs ns : List ℕ) (m i an : ℕ) (plac
       let f = function_of u.store n in let a = digits_of u.store xs in
       steps_as (joint_size_of v.store an n m) (negating u.store f a k) v.store w.store s t (bit_joint ∙ ap (negating u.store f a) same) h
 
-  bit_is : odd_at v.store an n m ≡ negated (function_of u.store n) (digits_of u.store xs) i
+  pub bit_is : odd_at v.store an n m ≡ negated (function_of u.store n) (digits_of u.store xs) i
   bit_is =
       let f = function_of u.store n in let a = digits_of u.store xs in
       odd_same (function_of v.store an) (function_of v.store n) (function_of v.store m) (a i) f (one_carry f a i) a_denotes.is n_denotes.is carry_here ∙ odd_negated f a i
 
-  next_is : less_at v.store m an ≡ one_carry (function_of u.store n) (digits_of u.store xs) (suc i)
+  pub next_is : less_at v.store m an ≡ one_carry (function_of u.store n) (digits_of u.store xs) (suc i)
   next_is =
       let f = function_of u.store n in let a = digits_of u.store xs in
       less_same (function_of v.store m) (function_of v.store an) (one_carry f a i) (a i) carry_here a_denotes.is ∙ one_carry-less f a i
-
-  both_same : (odd_at v.store an n m ∷ less_at v.store m an ∷ []) ≡ (negated (function_of u.store n) (digits_of u.store xs) i ∷ one_carry (function_of u.store n) (digits_of u.store xs) (suc i) ∷ [])
-  both_same =
-      let f = function_of u.store n in let a = digits_of u.store xs in
-      lists_same (odd_at v.store an n m) (less_at v.store m an) (negated f a i) (one_carry f a (suc i)) bit_is next_is
-
-  both_wanted : i < length xs → (p : Function) → IsPrefixOfSome u.store.order (negated (function_of u.store n) (digits_of u.store xs) i ∷ one_carry (function_of u.store n) (digits_of u.store xs) (suc i) ∷ []) p → InNegation u.store n xs p
-  both_wanted less =
-      let f = function_of u.store n in let a = digits_of u.store xs in let w = length xs + 1 in
-      all_of_two u.store.order (negated f a i) (one_carry f a (suc i)) (InNegation u.store n xs)
-      (λ p q. wanted_bit u.store.order w i f a p (omega (arith, less)) q)
-      (λ p q. wanted_next u.store.order w (suc i) f a p (omega (arith, less)) q)
-
-  -- a place before the last
-  pub bit_grows : (w : StoreAndCache) → i < length xs → Grows v (IsPrefixOfSome v.store.order (odd_at v.store an n m ∷ less_at v.store m an ∷ [])) w → Grows u (InNegation u.store n xs) w
-  bit_grows w less g =
-      let f = function_of u.store n in let a = digits_of u.store xs in
-      grows_calls u v w (InNegation u.store n xs) (odd_at v.store an n m ∷ less_at v.store m an ∷ []) (negated f a i ∷ one_carry f a (suc i) ∷ []) place.negates.grows g both_same (both_wanted less)
-
-  pub bit_stops : (w : StoreAndCache) → i < length xs → (why : StoreStop) → StopIs w.store (IsPrefixOfSome v.store.order (odd_at v.store an n m ∷ less_at v.store m an ∷ [])) why → StopIs w.store (InNegation u.store n xs) why
-  bit_stops w less why stop =
-      let f = function_of u.store n in let a = digits_of u.store xs in
-      stop_calls u v w (InNegation u.store n xs) (odd_at v.store an n m ∷ less_at v.store m an ∷ []) (negated f a i ∷ one_carry f a (suc i) ∷ []) place.negates.grows both_same (both_wanted less) why stop
-
-  shows_one : (w : StoreAndCache) (b : ℕ) (Are : Property) → Grows v Are w → Denotes w.store b (odd_at v.store an n m) → Shows w.store (ns ++ b ∷ []) (negated (function_of u.store n) (digits_of u.store xs))
-  shows_one w b Are g is =
-      let s = negated (function_of u.store n) (digits_of u.store xs) in
-      shows_more v w Are ns s b place.negates.grows.sound g place.negates.shows (denotes_as w.store b (odd_at v.store an n m) (s (length ns)) (bit_is ∙ ap s (sym place.at)) is)
-
-  one_longer : (b : ℕ) → length (ns ++ b ∷ []) ≡ suc i
-  one_longer b = omega (arith, length-append ns (b ∷ []), place.at)
-
-  pub negates_more : (w : StoreAndCache) (zs : List ℕ) (b l : ℕ) → i < length xs → Grows v (IsPrefixOfSome v.store.order (odd_at v.store an n m ∷ less_at v.store m an ∷ [])) w → Denotes w.store b (odd_at v.store an n m) → Denotes w.store l (less_at v.store m an) → zs ≡ ns ++ b ∷ [] → Negates u n xs w zs l
-  negates_more w zs b l less g is_b is_l made =
-      let c = one_carry (function_of u.store n) (digits_of u.store xs) in
-      let out : Negates u n xs w (ns ++ b ∷ []) l = record {
-        grows = bit_grows w less g;
-        shows = shows_one w b (IsPrefixOfSome v.store.order (odd_at v.store an n m ∷ less_at v.store m an ∷ [])) g is_b;
-        carries = denotes_as w.store l (less_at v.store m an) (c (length (ns ++ b ∷ []))) (next_is ∙ ap c (sym (one_longer b))) is_l;
-      } in
-      rw made out
-
-  -- the last place
-  sign_wanted : i ≡ length xs → (p : Function) → IsPrefixOf u.store.order (negated (function_of u.store n) (digits_of u.store xs) i) p → InNegation u.store n xs p
-  sign_wanted last p q = wanted_bit u.store.order (length xs + 1) i (function_of u.store n) (digits_of u.store xs) p (omega (arith, last)) q
-
-  pub sign_grows : (w : StoreAndCache) → i ≡ length xs → Grows v (IsPrefixOf v.store.order (odd_at v.store an n m)) w → Grows u (InNegation u.store n xs) w
-  sign_grows w last g =
-      grows_call u v w (InNegation u.store n xs) (odd_at v.store an n m) (negated (function_of u.store n) (digits_of u.store xs) i) place.negates.grows g bit_is (sign_wanted last)
-
-  pub sign_stops : (w : StoreAndCache) → i ≡ length xs → (why : StoreStop) → StopIs w.store (IsPrefixOf v.store.order (odd_at v.store an n m)) why → StopIs w.store (InNegation u.store n xs) why
-  sign_stops w last why stop =
-      stop_call u v w (InNegation u.store n xs) (odd_at v.store an n m) (negated (function_of u.store n) (digits_of u.store xs) i) place.negates.grows bit_is (sign_wanted last) why stop
 
   pub negation_done : (w : StoreAndCache) (zs : List ℕ) (b : ℕ) → i ≡ length xs → length xs ≤ 130 → Grows v (IsPrefixOf v.store.order (odd_at v.store an n m)) w → Denotes w.store b (odd_at v.store an n m) → zs ≡ ns ++ b ∷ [] → IsNegation u.store w.store n xs zs
   negation_done w zs b long few_x g is made =
       let f = function_of u.store n in let a = digits_of u.store xs in
       let k = length xs - 1 in
       let px = place.stands.some in
-      let len : length zs ≡ suc i = ap length made ∙ one_longer b in
-      let shows : Shows w.store zs (negated f a) = rw made (shows_one w b (IsPrefixOf v.store.order (odd_at v.store an n m)) g is) in
+      let len : length zs ≡ suc i = omega (arith, ap length made, length-append ns (b ∷ []), place.at) in
+      let shows : Shows w.store zs (negated f a) = rw made (top_shows place.negates place.at bit_is next_is w b g is) in
       let some : 0 < length zs = omega (arith, len) in
       let few : length zs ≤ 131 = omega (arith, len, long, few_x) in
       let ha = steady-digits u.store xs px in

@@ -18,29 +18,16 @@ use Rattle.slice_vec.specs.declared.place.Pair.{Pair}
 use Rattle.slice_vec.specs.Digits.{majority_bit, odd_bit, majority, odd, less, choice}
 use Rattle.slice_vec.specs.Growing.{Grows, Denotes}
 use Rattle.slice_vec.specs.Places.{IsPair, odd_at, majority_at, less_at, choice_at}
+use Rattle.diagram_ops.proofs.Cases.{of_three, of_two}
 
 -- the tables
 odd_table : (a b c : Bool) → connective 150 a b c ≡ odd_bit a b c
 unfolding connective
-odd_table true true true = refl
-odd_table true true false = refl
-odd_table true false true = refl
-odd_table true false false = refl
-odd_table false true true = refl
-odd_table false true false = refl
-odd_table false false true = refl
-odd_table false false false = refl
+odd_table = of_three (λ a b c. connective 150 a b c ≡ odd_bit a b c) refl refl refl refl refl refl refl refl
 
 majority_table : (a b c : Bool) → connective 232 a b c ≡ majority_bit a b c
 unfolding connective
-majority_table true true true = refl
-majority_table true true false = refl
-majority_table true false true = refl
-majority_table true false false = refl
-majority_table false true true = refl
-majority_table false true false = refl
-majority_table false false true = refl
-majority_table false false false = refl
+majority_table = of_three (λ a b c. connective 232 a b c ≡ majority_bit a b c) refl refl refl refl refl refl refl refl
 
 pub connected-odd : (f g h : Function) → connected 150 f g h ≡ odd f g h
 unfolding connected odd
@@ -74,40 +61,22 @@ call_stop d vs f r o same stop = rw (sym same) stop
 
 -- two of three are one
 odd_first : (a c : Bool) → odd_bit a a c ≡ c
-odd_first true true = refl
-odd_first true false = refl
-odd_first false true = refl
-odd_first false false = refl
+odd_first = of_two (λ a c. odd_bit a a c ≡ c) refl refl refl refl
 
 odd_outer : (a b : Bool) → odd_bit a b a ≡ b
-odd_outer true true = refl
-odd_outer true false = refl
-odd_outer false true = refl
-odd_outer false false = refl
+odd_outer = of_two (λ a b. odd_bit a b a ≡ b) refl refl refl refl
 
 odd_last : (a b : Bool) → odd_bit a b b ≡ a
-odd_last true true = refl
-odd_last true false = refl
-odd_last false true = refl
-odd_last false false = refl
+odd_last = of_two (λ a b. odd_bit a b b ≡ a) refl refl refl refl
 
 majority_first : (a c : Bool) → majority_bit a a c ≡ a
-majority_first true true = refl
-majority_first true false = refl
-majority_first false true = refl
-majority_first false false = refl
+majority_first = of_two (λ a c. majority_bit a a c ≡ a) refl refl refl refl
 
 majority_outer : (a b : Bool) → majority_bit a b a ≡ a
-majority_outer true true = refl
-majority_outer true false = refl
-majority_outer false true = refl
-majority_outer false false = refl
+majority_outer = of_two (λ a b. majority_bit a b a ≡ a) refl refl refl refl
 
 majority_last : (a b : Bool) → majority_bit a b b ≡ b
-majority_last true true = refl
-majority_last true false = refl
-majority_last false true = refl
-majority_last false false = refl
+majority_last = of_two (λ a b. majority_bit a b b ≡ b) refl refl refl refl
 
 pub pair_odd : (d : Diagram) (a b c : ℕ) (p : Pair) → IsLive d a → IsLive d b → IsLive d c → IsPair a b c p → Denotes d p.third.0 (odd_at d a b c)
 unfolding odd
@@ -145,10 +114,7 @@ majority_on v w Is a b c s g la lb lc =
 -- one where another isn't
 less_table : (a b : Bool) → connective 48 a b false ≡ (a && not b)
 unfolding connective
-less_table true true = refl
-less_table true false = refl
-less_table false true = refl
-less_table false false = refl
+less_table = of_two (λ a b. connective 48 a b false ≡ (a && not b)) refl refl refl refl
 
 pub connected-less : (d : Diagram) (f g : ℕ) → IsSound d → connected 48 (function_of d f) (function_of d g) (function_of d 0) ≡ less_at d f g
 unfolding connected less
@@ -183,14 +149,7 @@ less_all d f g s live e =
 -- the table of a choice
 choice_table : (n a b : Bool) → connective 202 n a b ≡ cond n a b
 unfolding connective
-choice_table true true true = refl
-choice_table true true false = refl
-choice_table true false true = refl
-choice_table true false false = refl
-choice_table false true true = refl
-choice_table false true false = refl
-choice_table false false true = refl
-choice_table false false false = refl
+choice_table = of_three (λ n a b. connective 202 n a b ≡ cond n a b) refl refl refl refl refl refl refl refl
 
 pub connected-choice : (f g h : Function) → connected 202 f g h ≡ choice f g h
 unfolding connected choice

@@ -6,6 +6,7 @@ pub mod Known
 pub mod Gathering
 pub mod Outcomes
 pub mod Asked
+pub mod Cuts
 pub mod Ways
 pub mod Turns
 pub mod CountsAt

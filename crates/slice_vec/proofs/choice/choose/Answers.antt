@@ -20,27 +20,6 @@ pub returns-then-eq-3-clause-node : goal.returns-then-eq-3-clause-node
 returns-then-eq-3-clause-node g c =
     choice_false c.args.d.now.store c.args.n.0 c.args.a.0 c.args.b.0 c.requires.sound.store c.requires.b (eqb-true c.args.n.0 0 (sym c.eq-3.ensures ∙ c.if-eq-3.true))
 
-pub returns-clause-grows : goal.returns-clause-grows
-returns-clause-grows g c =
-    let v = c.args.d.now in
-    let n = c.args.n.0 in let a = c.args.a.0 in let b = c.args.b.0 in
-    let same = connected-choice (function_of v.store n) (function_of v.store a) (function_of v.store b) in
-    call_grows v c.apply3.new.self (key_of 202 n a b) c.apply3.result (connective_of 202 v.store n a b) (choice_at v.store n a b) same c.apply3.ensures.sound c.apply3.ensures.extends c.apply3.ensures.functions c.apply3.ensures.cache c.apply3.ensures.stopped c.apply3.ensures.cached c.apply3.ensures.made
-
-pub returns-clause-node : goal.returns-clause-node
-returns-clause-node g c =
-    let v = c.args.d.now in
-    let n = c.args.n.0 in let a = c.args.a.0 in let b = c.args.b.0 in
-    let same = connected-choice (function_of v.store n) (function_of v.store a) (function_of v.store b) in
-    call_node c.apply3.new.self.store (connective_of 202 v.store n a b) (choice_at v.store n a b) c.apply3.result same c.apply3.ensures.live c.apply3.ensures.denotes
-
-pub returns-clause-stop : goal.returns-clause-stop
-returns-clause-stop g c =
-    let v = c.args.d.now in
-    let n = c.args.n.0 in let a = c.args.a.0 in let b = c.args.b.0 in
-    let same = connected-choice (function_of v.store n) (function_of v.store a) (function_of v.store b) in
-    call_stop c.apply3.new.self.store v.store.order (connective_of 202 v.store n a b) (choice_at v.store n a b) c.apply3.result same c.apply3.ensures.stop
-
 pub returns-then-eq-clause-steps : goal.returns-then-eq-clause-steps
 returns-then-eq-clause-steps g c = steps_none c.args.d.now.store (joint_size_of c.args.d.now.store c.args.n.0 c.args.a.0 c.args.b.0) c.args.steps.now
 
@@ -49,3 +28,16 @@ returns-then-eq-2-clause-steps g c = steps_none c.args.d.now.store (joint_size_o
 
 pub returns-then-eq-3-clause-steps : goal.returns-then-eq-3-clause-steps
 returns-then-eq-3-clause-steps g c = steps_none c.args.d.now.store (joint_size_of c.args.d.now.store c.args.n.0 c.args.a.0 c.args.b.0) c.args.steps.now
+
+pub returns : goal.returns
+returns g c =
+    let v = c.args.d.now in let w = c.apply3.new.self in let n = c.args.n.0 in let a = c.args.a.0 in let b = c.args.b.0 in
+    let f = connective_of 202 v.store n a b in let r = choice_at v.store n a b in
+    let same = connected-choice (function_of v.store n) (function_of v.store a) (function_of v.store b) in
+    let e = c.apply3.ensures in
+    record {
+      grows = call_grows v w (key_of 202 n a b) c.apply3.result f r same e.sound e.extends e.functions e.cache e.stopped e.cached e.made;
+      node = call_node w.store f r c.apply3.result same e.live e.denotes;
+      stop = call_stop w.store v.store.order f r c.apply3.result same e.stop;
+      steps = e.steps;
+    }

@@ -1,14 +1,15 @@
-use Rattle.std.proofs.Common.{rules, arith, ◌+◌, ◌≡◌, ap, ◌<◌, ◌∷◌, [], length, max, length-append}
+use Rattle.std.proofs.Common.{arith, ◌+◌, ◌≡◌, ap, ◌<◌, ◌∷◌, [], length, max, length-append}
+use Rattle.std.proofs.lemmas.Result.{err_from_is_err_and}
 use Rattle.diagram_model.specs.Stores.{function_of}
-use Rattle.diagram_ops.specs.Made.{StopIs, IsPrefixOfSome}
 use Rattle.slice_vec.specs.Bounds.{choosing, choice_steps}
 use Rattle.slice_vec.specs.Digits.{chosen}
 use Rattle.slice_vec.specs.Growing.{Denotes}
-use Rattle.slice_vec.specs.Places.{choice_at}
-use Rattle.slice_vec.specs.Slices.{digits_of, first_bits}
+use Rattle.slice_vec.specs.Slices.{digits_of}
 use Rattle.slice_vec.proofs.Bits.{bit_denotes}
 use Rattle.slice_vec.proofs.Bounds.{steps_none, steps_begin, steps_place, steps_short, steps_all}
 use Rattle.slice_vec.proofs.Followed.{Follows, next_grows, next_stops, follows_none, follows_more, choice_is, choice_joint, chosen_done}
+use Rattle.slice_vec.proofs.choice.select.Given.{Over}
+use Rattle.slice_vec.proofs.choice.select.Goals.{After-choose}
 use Rattle.slice_vec.proofs.choice.select.Goals as goal
 
 pub loop-i-init : goal.loop-i-init
@@ -25,123 +26,65 @@ loop-i-init g c =
       steps = steps_begin (choosing u.store (function_of u.store n) (digits_of u.store xs) (digits_of u.store ys)) u.store c.args.steps.now;
     }
 
-pub choose-requires-clause-a : goal.choose-requires-clause-a
-choose-requires-clause-a g c =
-    let u = c.args.d.now in let v = c.loop-i.d in
-    let xs = c.args.x.now in let ys = c.args.y.now in let n = c.args.n.0 in
-    let k = max (length xs) (length ys) in
-    let s = chosen (function_of u.store n) (digits_of u.store xs) (digits_of u.store ys) in
-    let ns = c.loop-i.row.nodes in let i = c.loop-i.i in
-    let an = c.bit.result.0 in let bn = c.bit-in-loop-i.result.0 in
-    let h : Follows u k s v ns = c.loop-i.invariant.follows in
-    let began = c.cached-cached.ensures.sound in
-    let a : Denotes v.store an (digits_of u.store xs i) = bit_denotes u v (IsPrefixOfSome u.store.order (first_bits k s)) xs i an began h.grows c.requires.x c.bit.ensures in
-    let b : Denotes v.store bn (digits_of u.store ys i) = bit_denotes u v (IsPrefixOfSome u.store.order (first_bits k s)) ys i bn began h.grows c.requires.y c.bit-in-loop-i.ensures in
-    a.live
+-- both bits of a place
+bits : (g : Over) (c : After-choose g) → Denotes c.loop-i.d.store c.bit.result.0 (digits_of c.args.d.now.store c.args.x.now c.loop-i.i) × Denotes c.loop-i.d.store c.bit-in-loop-i.result.0 (digits_of c.args.d.now.store c.args.y.now c.loop-i.i)
+bits g c =
+    let u = c.args.d.now in let v = c.loop-i.d in let began = c.cached-cached.ensures.sound in let h = c.loop-i.invariant.follows in
+    (bit_denotes u v _ c.args.x.now c.loop-i.i c.bit.result.0 began h.grows c.requires.x c.bit.ensures, bit_denotes u v _ c.args.y.now c.loop-i.i c.bit-in-loop-i.result.0 began h.grows c.requires.y c.bit-in-loop-i.ensures)
 
-pub choose-requires-clause-b : goal.choose-requires-clause-b
-choose-requires-clause-b g c =
-    let u = c.args.d.now in let v = c.loop-i.d in
-    let xs = c.args.x.now in let ys = c.args.y.now in let n = c.args.n.0 in
-    let k = max (length xs) (length ys) in
-    let s = chosen (function_of u.store n) (digits_of u.store xs) (digits_of u.store ys) in
-    let ns = c.loop-i.row.nodes in let i = c.loop-i.i in
-    let an = c.bit.result.0 in let bn = c.bit-in-loop-i.result.0 in
-    let h : Follows u k s v ns = c.loop-i.invariant.follows in
-    let began = c.cached-cached.ensures.sound in
-    let a : Denotes v.store an (digits_of u.store xs i) = bit_denotes u v (IsPrefixOfSome u.store.order (first_bits k s)) xs i an began h.grows c.requires.x c.bit.ensures in
-    let b : Denotes v.store bn (digits_of u.store ys i) = bit_denotes u v (IsPrefixOfSome u.store.order (first_bits k s)) ys i bn began h.grows c.requires.y c.bit-in-loop-i.ensures in
-    b.live
+within : (g : Over) (c : After-choose g) → c.loop-i.i < max (length c.args.x.now) (length c.args.y.now)
+within g c = omega (arith, c.loop-i-test.true, c.max-width.ensures, c.width.ensures, c.width-2.ensures)
 
-pub returns-in_err-bit-clause-grows : goal.returns-in_err-bit-clause-grows
-returns-in_err-bit-clause-grows g c =
-    let u = c.args.d.now in let v = c.loop-i.d in
-    let xs = c.args.x.now in let ys = c.args.y.now in let n = c.args.n.0 in
-    let k = max (length xs) (length ys) in
-    let s = chosen (function_of u.store n) (digits_of u.store xs) (digits_of u.store ys) in
-    let ns = c.loop-i.row.nodes in let i = c.loop-i.i in
-    let an = c.bit.result.0 in let bn = c.bit-in-loop-i.result.0 in
-    let h : Follows u k s v ns = c.loop-i.invariant.follows in
-    let began = c.cached-cached.ensures.sound in
-    let a : Denotes v.store an (digits_of u.store xs i) = bit_denotes u v (IsPrefixOfSome u.store.order (first_bits k s)) xs i an began h.grows c.requires.x c.bit.ensures in
-    let b : Denotes v.store bn (digits_of u.store ys i) = bit_denotes u v (IsPrefixOfSome u.store.order (first_bits k s)) ys i bn began h.grows c.requires.y c.bit-in-loop-i.ensures in
-    let f = choice_at v.store n an bn in
-    let same : f ≡ s i = choice_is u v (IsPrefixOfSome u.store.order (first_bits k s)) n xs ys i an bn began h.grows c.requires.n a b in
-    let less : i < k = omega (arith, c.loop-i-test.true, c.max-width.ensures, c.width.ensures, c.width-2.ensures) in
-    next_grows u k s v ns h i c.loop-i.invariant.count f same c.choose.new.d less c.choose.ensures.grows
-
-pub returns-in_err-bit-clause-stop : goal.returns-in_err-bit-clause-stop
-returns-in_err-bit-clause-stop g c =
-    let u = c.args.d.now in let v = c.loop-i.d in
-    let xs = c.args.x.now in let ys = c.args.y.now in let n = c.args.n.0 in
-    let k = max (length xs) (length ys) in
-    let s = chosen (function_of u.store n) (digits_of u.store xs) (digits_of u.store ys) in
-    let ns = c.loop-i.row.nodes in let i = c.loop-i.i in
-    let an = c.bit.result.0 in let bn = c.bit-in-loop-i.result.0 in
-    let h : Follows u k s v ns = c.loop-i.invariant.follows in
-    let began = c.cached-cached.ensures.sound in
-    let a : Denotes v.store an (digits_of u.store xs i) = bit_denotes u v (IsPrefixOfSome u.store.order (first_bits k s)) xs i an began h.grows c.requires.x c.bit.ensures in
-    let b : Denotes v.store bn (digits_of u.store ys i) = bit_denotes u v (IsPrefixOfSome u.store.order (first_bits k s)) ys i bn began h.grows c.requires.y c.bit-in-loop-i.ensures in
-    let f = choice_at v.store n an bn in
-    let same : f ≡ s i = choice_is u v (IsPrefixOfSome u.store.order (first_bits k s)) n xs ys i an bn began h.grows c.requires.n a b in
-    let less : i < k = omega (arith, c.loop-i-test.true, c.max-width.ensures, c.width.ensures, c.width-2.ensures) in
-    let stop : StopIs c.choose.new.d.store (IsPrefixOfSome u.store.order (first_bits k s)) c.in_err-bit.field-0.0 = next_stops u k s v ns h i c.loop-i.invariant.count f same c.choose.new.d less c.in_err-bit.field-0.0 c.in_err-bit.ensures.stop in
-    search rules
-
-pub loop-i-preserved : goal.loop-i-preserved
-loop-i-preserved g c =
-    let u = c.args.d.now in let v = c.loop-i.d in
-    let xs = c.args.x.now in let ys = c.args.y.now in let n = c.args.n.0 in
-    let k = max (length xs) (length ys) in
-    let s = chosen (function_of u.store n) (digits_of u.store xs) (digits_of u.store ys) in
-    let ns = c.loop-i.row.nodes in let i = c.loop-i.i in
-    let an = c.bit.result.0 in let bn = c.bit-in-loop-i.result.0 in
-    let h : Follows u k s v ns = c.loop-i.invariant.follows in
-    let began = c.cached-cached.ensures.sound in
-    let a : Denotes v.store an (digits_of u.store xs i) = bit_denotes u v (IsPrefixOfSome u.store.order (first_bits k s)) xs i an began h.grows c.requires.x c.bit.ensures in
-    let b : Denotes v.store bn (digits_of u.store ys i) = bit_denotes u v (IsPrefixOfSome u.store.order (first_bits k s)) ys i bn began h.grows c.requires.y c.bit-in-loop-i.ensures in
-    let f = choice_at v.store n an bn in
-    let same : f ≡ s i = choice_is u v (IsPrefixOfSome u.store.order (first_bits k s)) n xs ys i an bn began h.grows c.requires.n a b in
-    let less : i < k = omega (arith, c.loop-i-test.true, c.max-width.ensures, c.width.ensures, c.width-2.ensures) in
+pub choose-requires : goal.choose-requires
+choose-requires g c =
+    let u = c.args.d.now in let v = c.loop-i.d in let began = c.cached-cached.ensures.sound in let h = c.loop-i.invariant.follows in
     record {
-      count = omega (arith, ap length c.push.ensures.nodes, length-append ns (c.in_ok-bit.bit.0 ∷ []), c.loop-i.invariant.count);
-      room = omega (arith, c.loop-i.invariant.room, c.push.ensures.room);
-      follows = follows_more u k s v ns h i c.loop-i.invariant.count f same c.choose.new.d c.push.new.self.nodes c.in_ok-bit.bit.0 less c.choose.ensures.grows c.in_ok-bit.ensures.node c.push.ensures.nodes;
-      steps = steps_place (choosing u.store (function_of u.store n) (digits_of u.store xs) (digits_of u.store ys)) i (i + 1) u.store v.store c.choose.new.d.store c.args.steps.now c.loop-i.steps c.choose.new.steps (omega arith) c.loop-i.invariant.steps (choice_joint u v (IsPrefixOfSome u.store.order (first_bits k s)) n xs ys i an bn c.choose.new.d c.loop-i.steps c.choose.new.steps began h.grows c.requires.n a b c.choose.ensures.steps);
+      sound = h.grows.sound;
+      n = h.grows.functions.live c.args.n.0 c.requires.n;
+      a = (bit_denotes u v _ c.args.x.now c.loop-i.i c.bit.result.0 began h.grows c.requires.x c.bit.ensures).live;
+      b = (bit_denotes u v _ c.args.y.now c.loop-i.i c.bit-in-loop-i.result.0 began h.grows c.requires.y c.bit-in-loop-i.ensures).live;
     }
-
-pub returns-clause-chosen : goal.returns-clause-chosen
-returns-clause-chosen g c =
-    let u = c.args.d.now in let v = c.loop-i.d in
-    let xs = c.args.x.now in let ys = c.args.y.now in let n = c.args.n.0 in
-    let k = max (length xs) (length ys) in
-    let s = chosen (function_of u.store n) (digits_of u.store xs) (digits_of u.store ys) in
-    let zs = c.into_slices.result in
-    let made : zs ≡ c.loop-i.row.nodes = c.into_slices.ensures in
-    let h : Follows u k s v zs = rw made c.loop-i.invariant.follows in
-    chosen_done u v n xs ys zs c.requires.x c.requires.y h (omega (arith, ap length made, c.loop-i.invariant.count, c.loop-i-test.false, c.loop-i.auto.i-end, c.max-width.ensures, c.width.ensures, c.width-2.ensures))
 
 pub returns-in_err-row-clause-steps : goal.returns-in_err-row-clause-steps
 returns-in_err-row-clause-steps g c = steps_none c.args.d.now.store (choice_steps c.args.d.now.store c.args.n.0 c.args.x.now c.args.y.now) c.args.steps.now
 
-pub returns-in_err-bit-clause-steps : goal.returns-in_err-bit-clause-steps
-returns-in_err-bit-clause-steps g c =
-    let u = c.args.d.now in let v = c.loop-i.d in
-    let xs = c.args.x.now in let ys = c.args.y.now in let n = c.args.n.0 in
-    let k = max (length xs) (length ys) in
-    let s = chosen (function_of u.store n) (digits_of u.store xs) (digits_of u.store ys) in
-    let ns = c.loop-i.row.nodes in let i = c.loop-i.i in
-    let an = c.bit.result.0 in let bn = c.bit-in-loop-i.result.0 in
-    let h : Follows u k s v ns = c.loop-i.invariant.follows in
-    let began = c.cached-cached.ensures.sound in
-    let a : Denotes v.store an (digits_of u.store xs i) = bit_denotes u v (IsPrefixOfSome u.store.order (first_bits k s)) xs i an began h.grows c.requires.x c.bit.ensures in
-    let b : Denotes v.store bn (digits_of u.store ys i) = bit_denotes u v (IsPrefixOfSome u.store.order (first_bits k s)) ys i bn began h.grows c.requires.y c.bit-in-loop-i.ensures in
-    let less : i < k = omega (arith, c.loop-i-test.true, c.max-width.ensures, c.width.ensures, c.width-2.ensures) in
-    steps_short (choosing u.store (function_of u.store n) (digits_of u.store xs) (digits_of u.store ys)) i k u.store v.store c.choose.new.d.store c.args.steps.now c.loop-i.steps c.choose.new.steps less c.loop-i.invariant.steps (choice_joint u v (IsPrefixOfSome u.store.order (first_bits k s)) n xs ys i an bn c.choose.new.d c.loop-i.steps c.choose.new.steps began h.grows c.requires.n a b c.choose.ensures.steps)
+pub returns-in_err-bit : goal.returns-in_err-bit
+returns-in_err-bit g c =
+    let w = (goal.at.returns-in_err-bit g c).After-choose in
+    let both = bits g w in let less = within g w in
+    let u = c.args.d.now in let v = c.loop-i.d in let e = c.choose.new.d in let xs = c.args.x.now in let ys = c.args.y.now in let h = c.loop-i.invariant.follows in
+    let same = choice_is u v _ c.args.n.0 xs ys c.loop-i.i c.bit.result.0 c.bit-in-loop-i.result.0 c.cached-cached.ensures.sound h.grows c.requires.n both.0 both.1 in
+    let p = err_from_is_err_and c.from_residual-in_err-bit.result c.from_residual-in_err-bit.ensures.1 in
+    rw (p.1, p.2) (record {
+      chosen = tt;
+      grows = next_grows h c.loop-i.invariant.count same less e c.choose.ensures.grows;
+      stop = next_stops h c.loop-i.invariant.count same less e c.in_err-bit.field-0.0 c.in_err-bit.ensures.stop;
+      steps = steps_short (choosing u.store (function_of u.store c.args.n.0) (digits_of u.store xs) (digits_of u.store ys)) c.loop-i.i (max (length xs) (length ys)) u.store v.store e.store c.args.steps.now c.loop-i.steps c.choose.new.steps less c.loop-i.invariant.steps
+          (choice_joint u v _ c.args.n.0 xs ys c.loop-i.i c.bit.result.0 c.bit-in-loop-i.result.0 e c.loop-i.steps c.choose.new.steps c.cached-cached.ensures.sound h.grows c.requires.n both.0 both.1 c.choose.ensures.steps);
+    })
 
-pub returns-clause-steps : goal.returns-clause-steps
-returns-clause-steps g c =
-    let u = c.args.d.now in let v = c.loop-i.d in
-    let xs = c.args.x.now in let ys = c.args.y.now in let n = c.args.n.0 in
-    let k = max (length xs) (length ys) in
-    steps_all (choosing u.store (function_of u.store n) (digits_of u.store xs) (digits_of u.store ys)) c.loop-i.i k u.store v.store c.args.steps.now c.loop-i.steps (omega (arith, c.loop-i-test.false, c.loop-i.auto.i-end, c.max-width.ensures, c.width.ensures, c.width-2.ensures)) c.loop-i.invariant.steps
+pub loop-i-preserved : goal.loop-i-preserved
+loop-i-preserved g c =
+    let w = (goal.at.loop-i-preserved g c).After-choose in
+    let both = bits g w in let less = within g w in
+    let u = c.args.d.now in let v = c.loop-i.d in let e = c.choose.new.d in let xs = c.args.x.now in let ys = c.args.y.now in let h = c.loop-i.invariant.follows in
+    let same = choice_is u v _ c.args.n.0 xs ys c.loop-i.i c.bit.result.0 c.bit-in-loop-i.result.0 c.cached-cached.ensures.sound h.grows c.requires.n both.0 both.1 in
+    record {
+      count = omega (arith, ap length c.push.ensures.nodes, length-append c.loop-i.row.nodes (c.in_ok-bit.bit.0 ∷ []), c.loop-i.invariant.count);
+      room = omega (arith, c.loop-i.invariant.room, c.push.ensures.room);
+      follows = follows_more h c.loop-i.invariant.count same less e c.choose.ensures.grows c.in_ok-bit.ensures.node c.push.ensures.nodes;
+      steps = steps_place (choosing u.store (function_of u.store c.args.n.0) (digits_of u.store xs) (digits_of u.store ys)) c.loop-i.i (c.loop-i.i + 1) u.store v.store e.store c.args.steps.now c.loop-i.steps c.choose.new.steps (omega arith) c.loop-i.invariant.steps
+          (choice_joint u v _ c.args.n.0 xs ys c.loop-i.i c.bit.result.0 c.bit-in-loop-i.result.0 e c.loop-i.steps c.choose.new.steps c.cached-cached.ensures.sound h.grows c.requires.n both.0 both.1 c.choose.ensures.steps);
+    }
+
+pub returns : goal.returns
+returns g c =
+    let u = c.args.d.now in let v = c.loop-i.d in let xs = c.args.x.now in let ys = c.args.y.now in let zs = c.into_slices.result in let k = max (length xs) (length ys) in
+    let h : Follows u k (chosen (function_of u.store c.args.n.0) (digits_of u.store xs) (digits_of u.store ys)) v zs = rw c.into_slices.ensures c.loop-i.invariant.follows in
+    let all : c.loop-i.i ≡ k = omega (arith, c.loop-i-test.false, c.loop-i.auto.i-end, c.max-width.ensures, c.width.ensures, c.width-2.ensures) in
+    record {
+      chosen = chosen_done u v c.args.n.0 xs ys zs c.requires.x c.requires.y h (omega (arith, ap length c.into_slices.ensures, c.loop-i.invariant.count, all));
+      grows = h.grows;
+      stop = tt;
+      steps = steps_all (choosing u.store (function_of u.store c.args.n.0) (digits_of u.store xs) (digits_of u.store ys)) c.loop-i.i k u.store v.store c.args.steps.now c.loop-i.steps all c.loop-i.invariant.steps;
+    }

@@ -1,15 +1,17 @@
-use Rattle.std.proofs.Common.{rules, arith, ◌+◌, ◌≡◌, ap, ◌<◌, ◌∷◌, [], length, length-append}
+use Rattle.std.proofs.Common.{arith, ◌+◌, ◌≡◌, ap, ◌<◌, ◌∷◌, [], length, length-append}
+use Rattle.std.proofs.lemmas.Result.{err_from_is_err_and}
 use Rattle.diagram_model.specs.Functions.{IsPrefixOf}
 use Rattle.diagram_model.specs.Stores.{function_of}
 use Rattle.diagram_ops.specs.Flips.{exchanged}
-use Rattle.diagram_ops.specs.Made.{StopIs, IsPrefixOfSome}
 use Rattle.slice_vec.specs.Bounds.{turning, turn_steps}
 use Rattle.slice_vec.specs.Digits.{turned}
 use Rattle.slice_vec.specs.Growing.{Denotes}
-use Rattle.slice_vec.specs.Slices.{digits_of, first_bits}
+use Rattle.slice_vec.specs.Slices.{digits_of}
 use Rattle.slice_vec.proofs.Bits.{bit_denotes}
 use Rattle.slice_vec.proofs.Bounds.{steps_none, steps_begin, steps_place, steps_short, steps_all}
 use Rattle.slice_vec.proofs.Followed.{Follows, next_grows, next_stops, follows_more, follows_none, turned_is, turned_live, turned_below, turned_none, turned_next, turned_joint, turned_done}
+use Rattle.slice_vec.proofs.exchange.flip_where.Given.{Over}
+use Rattle.slice_vec.proofs.exchange.flip_where.Goals.{After-flip_bit}
 use Rattle.slice_vec.proofs.exchange.flip_where.Goals as goal
 
 pub loop-i-init : goal.loop-i-init
@@ -27,123 +29,67 @@ loop-i-init g c =
       steps = steps_begin (turning u.store t (function_of u.store n) (digits_of u.store xs)) u.store c.args.steps.now;
     }
 
-pub flip_bit-requires-clause-a : goal.flip_bit-requires-clause-a
-flip_bit-requires-clause-a g c =
-    let began = c.cached-cached.ensures.sound in
-    let u = c.args.d.now in let v = c.loop-i.d in
-    let xs = c.args.x.now in let t = c.args.var in let n = c.args.n.0 in
-    let k = length xs in
-    let s = turned t (function_of u.store n) (digits_of u.store xs) in
-    let ns = c.loop-i.row.nodes in let i = c.loop-i.i in
-    let an = c.bit-from.result.0 in
-    let h : Follows u k s v ns = c.loop-i.invariant.follows in
-    let a : Denotes v.store an (digits_of u.store xs i) = bit_denotes u v (IsPrefixOfSome u.store.order (first_bits k s)) xs i an began h.grows c.requires.x c.bit-from.ensures in
-    a.live
+-- the bit of a place
+bit : (g : Over) (c : After-flip_bit g) → Denotes c.loop-i.d.store c.bit-from.result.0 (digits_of c.args.d.now.store c.args.x.now c.loop-i.i)
+bit g c = bit_denotes c.args.d.now c.loop-i.d _ c.args.x.now c.loop-i.i c.bit-from.result.0 c.cached-cached.ensures.sound c.loop-i.invariant.follows.grows c.requires.x c.bit-from.ensures
 
-pub flip_bit-requires-clause-n : goal.flip_bit-requires-clause-n
-flip_bit-requires-clause-n g c =
-    let began = c.cached-cached.ensures.sound in
-    let u = c.args.d.now in let v = c.loop-i.d in
-    let xs = c.args.x.now in let t = c.args.var in let n = c.args.n.0 in
-    let k = length xs in
-    let s = turned t (function_of u.store n) (digits_of u.store xs) in
-    let h : Follows u k s v c.loop-i.row.nodes = c.loop-i.invariant.follows in
-    turned_live u v (IsPrefixOfSome u.store.order (first_bits k s)) n began h.grows c.requires.n
+within : (g : Over) (c : After-flip_bit g) → c.loop-i.i < length c.args.x.now
+within g c = omega (arith, c.loop-i-test.true, c.width-i-end.ensures)
 
-pub flip_bit-requires-clause-below : goal.flip_bit-requires-clause-below
-flip_bit-requires-clause-below g c =
-    let began = c.cached-cached.ensures.sound in
-    let u = c.args.d.now in let v = c.loop-i.d in
-    let xs = c.args.x.now in let t = c.args.var in let n = c.args.n.0 in
-    let k = length xs in
-    let s = turned t (function_of u.store n) (digits_of u.store xs) in
-    let h : Follows u k s v c.loop-i.row.nodes = c.loop-i.invariant.follows in
-    turned_below u v (IsPrefixOfSome u.store.order (first_bits k s)) t n c.loop-i.below.from.0 c.loop-i.below.to.0 began h.grows c.requires.n c.loop-i.invariant.below
-
-pub returns-in_err-to-clause-grows : goal.returns-in_err-to-clause-grows
-returns-in_err-to-clause-grows g c =
-    let began = c.cached-cached.ensures.sound in
-    let u = c.args.d.now in let v = c.loop-i.d in
-    let xs = c.args.x.now in let t = c.args.var in let n = c.args.n.0 in
-    let k = length xs in
-    let s = turned t (function_of u.store n) (digits_of u.store xs) in
-    let ns = c.loop-i.row.nodes in let i = c.loop-i.i in
-    let an = c.bit-from.result.0 in
-    let h : Follows u k s v ns = c.loop-i.invariant.follows in
-    let a : Denotes v.store an (digits_of u.store xs i) = bit_denotes u v (IsPrefixOfSome u.store.order (first_bits k s)) xs i an began h.grows c.requires.x c.bit-from.ensures in
-    let f = exchanged t (function_of v.store n) (function_of v.store an) in
-    let same : f ≡ s i = turned_is u v (IsPrefixOfSome u.store.order (first_bits k s)) t n xs i an began h.grows c.requires.n a in
-    let less : i < k = omega (arith, c.loop-i-test.true, c.width-i-end.ensures) in
-    next_grows u k s v ns h i c.loop-i.invariant.count f same c.flip_bit.new.d less c.flip_bit.ensures.grows
-
-pub returns-in_err-to-clause-stop : goal.returns-in_err-to-clause-stop
-returns-in_err-to-clause-stop g c =
-    let began = c.cached-cached.ensures.sound in
-    let u = c.args.d.now in let v = c.loop-i.d in
-    let xs = c.args.x.now in let t = c.args.var in let n = c.args.n.0 in
-    let k = length xs in
-    let s = turned t (function_of u.store n) (digits_of u.store xs) in
-    let ns = c.loop-i.row.nodes in let i = c.loop-i.i in
-    let an = c.bit-from.result.0 in
-    let h : Follows u k s v ns = c.loop-i.invariant.follows in
-    let a : Denotes v.store an (digits_of u.store xs i) = bit_denotes u v (IsPrefixOfSome u.store.order (first_bits k s)) xs i an began h.grows c.requires.x c.bit-from.ensures in
-    let f = exchanged t (function_of v.store n) (function_of v.store an) in
-    let same : f ≡ s i = turned_is u v (IsPrefixOfSome u.store.order (first_bits k s)) t n xs i an began h.grows c.requires.n a in
-    let less : i < k = omega (arith, c.loop-i-test.true, c.width-i-end.ensures) in
-    let stop : StopIs c.flip_bit.new.d.store (IsPrefixOfSome u.store.order (first_bits k s)) c.in_err-to.field-0.0 = next_stops u k s v ns h i c.loop-i.invariant.count f same c.flip_bit.new.d less c.in_err-to.field-0.0 c.in_err-to.ensures.stop in
-    search rules
-
-pub loop-i-preserved : goal.loop-i-preserved
-loop-i-preserved g c =
-    let began = c.cached-cached.ensures.sound in
-    let u = c.args.d.now in let v = c.loop-i.d in
-    let xs = c.args.x.now in let t = c.args.var in let n = c.args.n.0 in
-    let k = length xs in
-    let s = turned t (function_of u.store n) (digits_of u.store xs) in
-    let ns = c.loop-i.row.nodes in let i = c.loop-i.i in
-    let an = c.bit-from.result.0 in
-    let h : Follows u k s v ns = c.loop-i.invariant.follows in
-    let a : Denotes v.store an (digits_of u.store xs i) = bit_denotes u v (IsPrefixOfSome u.store.order (first_bits k s)) xs i an began h.grows c.requires.x c.bit-from.ensures in
-    let f = exchanged t (function_of v.store n) (function_of v.store an) in
-    let same : f ≡ s i = turned_is u v (IsPrefixOfSome u.store.order (first_bits k s)) t n xs i an began h.grows c.requires.n a in
-    let less : i < k = omega (arith, c.loop-i-test.true, c.width-i-end.ensures) in
+pub flip_bit-requires : goal.flip_bit-requires
+flip_bit-requires g c =
+    let u = c.args.d.now in let v = c.loop-i.d in let n = c.args.n.0 in let began = c.cached-cached.ensures.sound in let h = c.loop-i.invariant.follows in
     record {
-      count = omega (arith, ap length c.push.ensures.nodes, length-append ns (c.in_ok-to.to.0 ∷ []), c.loop-i.invariant.count);
-      room = omega (arith, c.loop-i.invariant.room, c.push.ensures.room);
-      below = turned_next u v c.flip_bit.new.d (IsPrefixOfSome u.store.order (first_bits k s)) (IsPrefixOf v.store.order f) t n an c.in_ok-to.to.0 began h.grows c.flip_bit.ensures.grows c.requires.n a.live c.in_ok-to.ensures.node;
-      follows = follows_more u k s v ns h i c.loop-i.invariant.count f same c.flip_bit.new.d c.push.new.self.nodes c.in_ok-to.to.0 less c.flip_bit.ensures.grows c.in_ok-to.ensures.node c.push.ensures.nodes;
-      steps = steps_place (turning u.store t (function_of u.store n) (digits_of u.store xs)) i (i + 1) u.store v.store c.flip_bit.new.d.store c.args.steps.now c.loop-i.steps c.flip_bit.new.steps (omega arith) c.loop-i.invariant.steps (turned_joint u v (IsPrefixOfSome u.store.order (first_bits k s)) t n xs i an c.flip_bit.new.d c.loop-i.steps c.flip_bit.new.steps began h.grows c.requires.n a c.flip_bit.ensures.steps);
+      sound = h.grows.sound;
+      n = turned_live u v _ n began h.grows c.requires.n;
+      a = (bit_denotes u v _ c.args.x.now c.loop-i.i c.bit-from.result.0 began h.grows c.requires.x c.bit-from.ensures).live;
+      below = turned_below u v _ c.args.var n c.loop-i.below.from.0 c.loop-i.below.to.0 began h.grows c.requires.n c.loop-i.invariant.below;
+      var = rw h.grows.extends.order c.requires.var;
     }
-
-pub returns-clause-turned : goal.returns-clause-turned
-returns-clause-turned g c =
-    let began = c.cached-cached.ensures.sound in
-    let u = c.args.d.now in let v = c.loop-i.d in
-    let xs = c.args.x.now in let t = c.args.var in let n = c.args.n.0 in
-    let zs = c.into_slices.result in
-    let made : zs ≡ c.loop-i.row.nodes = c.into_slices.ensures in
-    let h : Follows u (length xs) (turned t (function_of u.store n) (digits_of u.store xs)) v zs = rw made c.loop-i.invariant.follows in
-    turned_done u v t n xs zs c.requires.x h (omega (arith, ap length made, c.loop-i.invariant.count, c.loop-i-test.false, c.loop-i.auto.i-end, c.width-i-end.ensures))
 
 pub returns-in_err-row-clause-steps : goal.returns-in_err-row-clause-steps
 returns-in_err-row-clause-steps g c = steps_none c.args.d.now.store (turn_steps c.args.d.now.store c.args.var c.args.n.0 c.args.x.now) c.args.steps.now
 
-pub returns-in_err-to-clause-steps : goal.returns-in_err-to-clause-steps
-returns-in_err-to-clause-steps g c =
-    let began = c.cached-cached.ensures.sound in
-    let u = c.args.d.now in let v = c.loop-i.d in
-    let xs = c.args.x.now in let t = c.args.var in let n = c.args.n.0 in
-    let k = length xs in
-    let s = turned t (function_of u.store n) (digits_of u.store xs) in
-    let ns = c.loop-i.row.nodes in let i = c.loop-i.i in
-    let an = c.bit-from.result.0 in
-    let h : Follows u k s v ns = c.loop-i.invariant.follows in
-    let a : Denotes v.store an (digits_of u.store xs i) = bit_denotes u v (IsPrefixOfSome u.store.order (first_bits k s)) xs i an began h.grows c.requires.x c.bit-from.ensures in
-    let less : i < k = omega (arith, c.loop-i-test.true, c.width-i-end.ensures) in
-    steps_short (turning u.store t (function_of u.store n) (digits_of u.store xs)) i k u.store v.store c.flip_bit.new.d.store c.args.steps.now c.loop-i.steps c.flip_bit.new.steps less c.loop-i.invariant.steps (turned_joint u v (IsPrefixOfSome u.store.order (first_bits k s)) t n xs i an c.flip_bit.new.d c.loop-i.steps c.flip_bit.new.steps began h.grows c.requires.n a c.flip_bit.ensures.steps)
+pub returns-in_err-to : goal.returns-in_err-to
+returns-in_err-to g c =
+    let w = (goal.at.returns-in_err-to g c).After-flip_bit in
+    let a = bit g w in let less = within g w in
+    let u = c.args.d.now in let v = c.loop-i.d in let e = c.flip_bit.new.d in let xs = c.args.x.now in let t = c.args.var in let n = c.args.n.0 in
+    let began = c.cached-cached.ensures.sound in let h = c.loop-i.invariant.follows in
+    let same = turned_is u v _ t n xs c.loop-i.i c.bit-from.result.0 began h.grows c.requires.n a in
+    let p = err_from_is_err_and c.from_residual-in_err-to.result c.from_residual-in_err-to.ensures.1 in
+    rw (p.1, p.2) (record {
+      turned = tt;
+      grows = next_grows h c.loop-i.invariant.count same less e c.flip_bit.ensures.grows;
+      stop = next_stops h c.loop-i.invariant.count same less e c.in_err-to.field-0.0 c.in_err-to.ensures.stop;
+      steps = steps_short (turning u.store t (function_of u.store n) (digits_of u.store xs)) c.loop-i.i (length xs) u.store v.store e.store c.args.steps.now c.loop-i.steps c.flip_bit.new.steps less c.loop-i.invariant.steps
+          (turned_joint u v _ t n xs c.loop-i.i c.bit-from.result.0 e c.loop-i.steps c.flip_bit.new.steps began h.grows c.requires.n a c.flip_bit.ensures.steps);
+    })
 
-pub returns-clause-steps : goal.returns-clause-steps
-returns-clause-steps g c =
-    let u = c.args.d.now in let v = c.loop-i.d in
-    let xs = c.args.x.now in let t = c.args.var in let n = c.args.n.0 in
-    steps_all (turning u.store t (function_of u.store n) (digits_of u.store xs)) c.loop-i.i (length xs) u.store v.store c.args.steps.now c.loop-i.steps (omega (arith, c.loop-i-test.false, c.loop-i.auto.i-end, c.width-i-end.ensures)) c.loop-i.invariant.steps
+pub loop-i-preserved : goal.loop-i-preserved
+loop-i-preserved g c =
+    let w = (goal.at.loop-i-preserved g c).After-flip_bit in
+    let a = bit g w in let less = within g w in
+    let u = c.args.d.now in let v = c.loop-i.d in let e = c.flip_bit.new.d in let xs = c.args.x.now in let t = c.args.var in let n = c.args.n.0 in let an = c.bit-from.result.0 in
+    let began = c.cached-cached.ensures.sound in let h = c.loop-i.invariant.follows in
+    let same = turned_is u v _ t n xs c.loop-i.i an began h.grows c.requires.n a in
+    record {
+      count = omega (arith, ap length c.push.ensures.nodes, length-append c.loop-i.row.nodes (c.in_ok-to.to.0 ∷ []), c.loop-i.invariant.count);
+      room = omega (arith, c.loop-i.invariant.room, c.push.ensures.room);
+      below = turned_next u v e _ (IsPrefixOf v.store.order (exchanged t (function_of v.store n) (function_of v.store an))) t n an c.in_ok-to.to.0 began h.grows c.flip_bit.ensures.grows c.requires.n a.live c.in_ok-to.ensures.node;
+      follows = follows_more h c.loop-i.invariant.count same less e c.flip_bit.ensures.grows c.in_ok-to.ensures.node c.push.ensures.nodes;
+      steps = steps_place (turning u.store t (function_of u.store n) (digits_of u.store xs)) c.loop-i.i (c.loop-i.i + 1) u.store v.store e.store c.args.steps.now c.loop-i.steps c.flip_bit.new.steps (omega arith) c.loop-i.invariant.steps
+          (turned_joint u v _ t n xs c.loop-i.i an e c.loop-i.steps c.flip_bit.new.steps began h.grows c.requires.n a c.flip_bit.ensures.steps);
+    }
+
+pub returns : goal.returns
+returns g c =
+    let u = c.args.d.now in let v = c.loop-i.d in let xs = c.args.x.now in let t = c.args.var in let n = c.args.n.0 in let zs = c.into_slices.result in
+    let h : Follows u (length xs) (turned t (function_of u.store n) (digits_of u.store xs)) v zs = rw c.into_slices.ensures c.loop-i.invariant.follows in
+    let all : c.loop-i.i ≡ length xs = omega (arith, c.loop-i-test.false, c.loop-i.auto.i-end, c.width-i-end.ensures) in
+    record {
+      turned = turned_done u v t n xs zs c.requires.x h (omega (arith, ap length c.into_slices.ensures, c.loop-i.invariant.count, all));
+      grows = h.grows;
+      stop = tt;
+      steps = steps_all (turning u.store t (function_of u.store n) (digits_of u.store xs)) c.loop-i.i (length xs) u.store v.store c.args.steps.now c.loop-i.steps all c.loop-i.invariant.steps;
+    }
