@@ -1,18 +1,15 @@
 -- The calls that make a gate's nodes.
-use Rattle.std.proofs.Common.{◌≡◌, ℕ, not, List, [], ◌∷◌, ◌++◌, map, refl, sym, ◌∙◌, ap}
-use mathlib.Core.Path.{fun_ext}
+use Rattle.std.proofs.Common.{◌≡◌, ℕ, not, List, [], ◌∷◌, ◌++◌, map, refl, ap}
 use Rattle.node_store.specs.declared.node.StoreStop.{StoreStop}
 use Rattle.diagram_model.specs.Functions.{Function, IsPrefixOf}
 use Rattle.diagram_model.specs.Stores.{function_of}
-use Rattle.diagram_ops.specs.Diagrams.{StoreAndCache, IsConsistent, variable_of}
-use Rattle.diagram_ops.specs.Made.{Property, StopIs, IsPrefixOfSome}
+use Rattle.diagram_ops.specs.Diagrams.{StoreAndCache, variable_of}
+use Rattle.diagram_ops.specs.Made.{StopIs, IsPrefixOfSome}
 use Rattle.diagram_ops.proofs.Making.{stop_wider}
 use Rattle.slice_vec.specs.Growing.{Grows, Denotes}
-use Rattle.slice_vec.proofs.Growing.{grows_wider, grows_call, grows_calls, stop_call, stop_calls, some_first, some_later, denotes_on, denotes_as}
+use Rattle.slice_vec.proofs.Growing.{grows_wider, grows_call, grows_calls, stop_call, stop_calls, some_first, some_later, denotes_as}
 use Rattle.slice_quad.specs.declared.gate.Target.{Target}
-use Rattle.slice_quad.specs.declared.gate.Gate.{Gate}
-use Rattle.slice_quad.specs.Mix.{all_true}
-use Rattle.slice_quad.specs.Fours.{mix_of, AreItsNodes}
+use Rattle.slice_quad.specs.Fours.{mix_of}
 use Rattle.slice_quad.specs.Work.{gate_functions, conjunctions}
 use Rattle.slice_quad.specs.Variables.{opposite_at, control_functions, IsGate}
 

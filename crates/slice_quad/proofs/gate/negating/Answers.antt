@@ -1,4 +1,4 @@
-use Rattle.std.proofs.Common.{Bool, true, false, sym, ◌∙◌}
+use Rattle.std.proofs.Common.{true, false, sym, ◌∙◌}
 use Rattle.diagram_ops.specs.Diagrams.{connective_of, key_of}
 use Rattle.slice_vec.proofs.Places.{call_grows, call_node, call_stop}
 use Rattle.slice_quad.specs.Fours.{mix_of}

@@ -1,4 +1,4 @@
-use Rattle.std.proofs.Common.{◌≡◌, Bool, true, false, sym, ◌∙◌, subst}
+use Rattle.std.proofs.Common.{subst}
 use Rattle.diagram_model.specs.Functions.{Function, IsPrefixOf}
 use Rattle.std.specs.Prelude.{IfOk, IfErr}
 use Rattle.diagram_ops.specs.Diagrams.{connective_of, key_of}
@@ -6,7 +6,7 @@ use Rattle.diagram_ops.specs.Made.{StopIs}
 use Rattle.slice_vec.specs.Growing.{Grows, Denotes}
 use Rattle.slice_vec.proofs.Places.{call_grows, call_node, call_stop}
 use Rattle.slice_quad.specs.Fours.{mix_of}
-use Rattle.slice_quad.specs.Column.{where_signed, where_negated}
+use Rattle.slice_quad.specs.Column.{where_signed}
 use Rattle.slice_quad.proofs.Gates.{where_out, where_in}
 use Rattle.slice_quad.proofs.gate.signing.Goals as goal
 
