@@ -3,6 +3,7 @@ pub mod Calls
 pub mod Chains
 pub mod Columns
 pub mod Conjoined
+pub mod Connected
 pub mod Crossed
 pub mod CrossingCalls
 pub mod DiagonalCalls
