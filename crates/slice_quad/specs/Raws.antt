@@ -14,7 +14,7 @@ use Rattle.slice_quad.specs.declared.gate.Target.{Target}
 use Rattle.slice_quad.specs.declared.gate.Gate.{Gate}
 use Rattle.slice_quad.specs.declared.raw.Halves.{Halves}
 use Rattle.slice_quad.specs.Fourfold.{Functions, Gives}
-use Rattle.slice_quad.specs.Mix.{Coordinates, zero_digits, signed_term, raw}
+use Rattle.slice_quad.specs.Mix.{Coordinates, zero_digits, term, signed_term, raw}
 use Rattle.slice_quad.specs.Fours.{nodes_of, digits_in, mix_of, AreIntegers, AreItsNodes}
 use Rattle.slice_quad.specs.Terms.{IsOf}
 use Rattle.slice_quad.specs.Work.{mix_functions}
@@ -116,6 +116,10 @@ pub record IsFixable (d : Diagram) (t : Target) (q : Four) : Type 0 where
 -- a coordinate is raw's
 abbrev pub GivesRaw : Target → Four → Gives
 GivesRaw t q u z w ns = IsRaw w (length q.a) (raw (mix_of t) (digits_in u q) z) ns
+
+-- a coordinate is its first or second term, without the sign
+abbrev pub GivesUnsigned : Target → Four → Bool → Gives
+GivesUnsigned t q s u z w ns = IsOf w (length q.a) (term (mix_of t) (digits_in u q) z s) ns
 
 -- a coordinate is its first or second term, with the sign
 abbrev pub GivesTerm : Target → Four → Bool → Gives

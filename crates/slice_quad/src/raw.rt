@@ -5,7 +5,7 @@ ghost use Rattle.diagram_ops.specs.Made.{StopIs};
 ghost use Rattle.slice_vec.specs.Growing.{Grows};
 ghost use Rattle.slice_quad.specs.Mix.{mixed, raw, old_negates};
 ghost use Rattle.slice_quad.specs.Fours.{mix_of, digits_in, AreIntegers};
-ghost use Rattle.slice_quad.specs.Raws.{mix_made, AreRaw, AreReduced, AreZeros, GivesFixed, GivesRaw, GivesTerm, IsFixable, IsHalf, IsMix, IsMixable, IsReady};
+ghost use Rattle.slice_quad.specs.Raws.{mix_made, AreRaw, AreReduced, AreZeros, GivesFixed, GivesRaw, GivesTerm, GivesUnsigned, IsFixable, IsHalf, IsMix, IsMixable, IsReady};
 ghost use Rattle.slice_quad.specs.Terms.{column_of, nodes_old};
 ghost use Rattle.slice_quad.specs.Turning.{IsTurning};
 ghost use Rattle.slice_quad.specs.Vectors.{vector_in, AreValues};
@@ -16,11 +16,11 @@ use crate::diagonal::Diagonal;
 use crate::flip::Flips;
 use crate::four::Four;
 use crate::fourfold::{Makes, each};
-use crate::gate::{Gate, Target, negating};
-use crate::term::{Column, signed_term};
+use crate::gate::{Gate, Target, negating, signing};
+use crate::term::{Column, brought, negates};
 use diagram_ops::Diagrams;
 use node_store::StoreStop;
-use slice_vec::{Slices, add, fix, zero};
+use slice_vec::{Slices, add, fix, negate_where, select, zero};
 use std::sync::ledger::Ledger;
 use steps::Steps;
 
@@ -92,6 +92,31 @@ struct Mixing<'a> {
 }
 
 impl<'a> Mixing<'a> {
+    /// The first or the second term of coordinate `z`, without its sign.
+    fn unsigned<L: Ledger>(
+        &self,
+        d: &mut Diagrams,
+        z: Coord,
+        second: bool,
+        steps: &mut Steps<L>,
+    ) -> Result<Slices, StoreStop>
+        requires sound { IsConsistent d.old }
+        requires ready { IsReady d.old.store self.now.gate.now self.now.q.now self.now.halves.now self.now.zero.now }
+        ensures term { IfOk result (GivesUnsigned self.now.gate.now.target self.now.q.now second d.old.store z d.new.store) }
+        ensures grows { Grows d.old (IsMix d.old.store self.now.gate.now.target self.now.q.now) d.new }
+        ensures stop { IfErr result (StopIs d.new.store (IsMix d.old.store self.now.gate.now.target self.now.q.now)) }
+    {
+        let gate = self.gate;
+        let column = column_at(&gate.target, z, second);
+        let from = self.halves.get(second);
+        let low = brought(column.low, z, from, self.zero);
+        let high = brought(column.high, z, from, self.zero);
+        let old = old_of(gate.target.rooted, self.q, self.zero, z, second);
+        let by_target = select(d, gate.is_set, high, low, steps)?;
+        let by_controls = select(d, gate.all, &by_target, old, steps)?;
+        Ok(by_controls)
+    }
+
     /// The first or the second term of coordinate `z`, with its sign.
     fn part<L: Ledger>(
         &self,
@@ -108,10 +133,17 @@ impl<'a> Mixing<'a> {
     {
         let gate = self.gate;
         let column = column_at(&gate.target, z, second);
-        let from = self.halves.get(second);
-        let old = old_of(gate.target.rooted, self.q, self.zero, z, second);
-        let term = signed_term(d, gate, column, from, old, self.zero, z, steps)?;
-        Ok(term)
+        let sign = signing(
+            d,
+            gate,
+            negates(column.low, z),
+            negates(column.high, z),
+            column.out,
+            steps,
+        )?;
+        let term = self.unsigned(d, z, second, steps)?;
+        let signed = negate_where(d, &term, sign, steps)?;
+        Ok(signed)
     }
 }
 
