@@ -1,22 +1,21 @@
 -- Conjunctions of the first controls.
-use Rattle.std.proofs.Common.{◌≡◌, ℕ, zero, suc, ◌+◌, ◌<◌, ◌≤◌, Bool, true, false, cond, List, [], ◌∷◌, ◌++◌, map, length, take, drop, get_or, inl, inr, refl, sym, ◌∙◌, ap, arith}
+use Rattle.std.proofs.Common.{◌≡◌, ℕ, zero, suc, ◌+◌, ◌<◌, ◌≤◌, Bool, true, false, List, [], ◌∷◌, ◌++◌, map, length, take, drop, get_or, inl, refl, sym, ◌∙◌, ap, arith}
 use Rattle.std.specs.Prelude.{◌&&◌}
-use Rattle.std.proofs.lemmas.List.{append_assoc, append-nil}
-use Rattle.std.proofs.lemmas.Bool.{cases_Bool}
+use Rattle.std.proofs.lemmas.List.{append_assoc}
 use mathlib.Core.Path.{fun_ext}
-use Rattle.node_store.specs.declared.node.StoreStop.{StoreStop}
 use Rattle.diagram_model.specs.Functions.{Function, IsPrefixOf}
 use Rattle.diagram_model.specs.Stores.{IsLive, function_of}
 use Rattle.diagram_model.proofs.Growing.{function_on}
 use Rattle.diagram_ops.specs.Diagrams.{StoreAndCache, IsConsistent, variable_of}
-use Rattle.diagram_ops.specs.Made.{Property, StopIs, IsPrefixOfSome}
+use Rattle.diagram_ops.specs.Made.{Property, IsPrefixOfSome}
 use Rattle.slice_vec.specs.Growing.{Grows, Denotes}
-use Rattle.slice_vec.proofs.Growing.{grows_none, grows_calls, stop_calls, some_left, some_right, some_first, some_later, all_of_two, denotes_as, lists_same}
+use Rattle.slice_vec.proofs.Growing.{grows_none, some_left, some_right, some_first, some_later, all_of_two, denotes_as, lists_same}
 use Rattle.slice_vec.proofs.Places.{true_function}
 use Rattle.slice_quad.specs.Mix.{all_true}
 use Rattle.slice_quad.specs.Fours.{true_places}
 use Rattle.slice_quad.specs.Work.{conjunctions}
 use Rattle.slice_quad.specs.Variables.{both_at, with_at, control_functions}
+use Rattle.slice_quad.proofs.Serving.{Serves, serves_one, serves_list, grows_by}
 
 -- the true places of the first bits, and of the others
 pub places_split : (n k m : ℕ) (x : List Bool) → k + n ≡ m → true_places n x ≡ true_places n (take k x) ++ true_places m (drop k x)
@@ -124,19 +123,14 @@ module _ (u v : StoreAndCache) (controls : List Bool) (n i : ℕ) (h : Conjoins 
   same : (variable_of i ∷ with_at v.store n i ∷ []) ≡ (variable_of i ∷ all_true (before ++ i ∷ []) ∷ [])
   same = lists_same (variable_of i) (with_at v.store n i) (variable_of i) (all_true (before ++ i ∷ [])) refl with_is
 
-  pub control_grows : (w : StoreAndCache) → Grows v (IsPrefixOfSome v.store.order (variable_of i ∷ with_at v.store n i ∷ [])) w → Grows u (Is u.store.order (true_places 0 controls)) w
-  control_grows w g =
-      grows_calls u v w (Is u.store.order (true_places 0 controls)) (variable_of i ∷ with_at v.store n i ∷ []) (variable_of i ∷ all_true (before ++ i ∷ []) ∷ []) h.grows g same
+  pub control_serves : Serves u v (Is u.store.order (true_places 0 controls)) (IsPrefixOfSome v.store.order (variable_of i ∷ with_at v.store n i ∷ []))
+  control_serves =
+      serves_list u v (Is u.store.order (true_places 0 controls)) (variable_of i ∷ with_at v.store n i ∷ []) (variable_of i ∷ all_true (before ++ i ∷ []) ∷ []) h.grows same
       (two_in u.store.order (true_places 0 controls) before i (true_places (suc i) (drop (suc i) controls)) whole_is)
-
-  pub control_stops : (w : StoreAndCache) (why : StoreStop) → StopIs w.store (IsPrefixOfSome v.store.order (variable_of i ∷ with_at v.store n i ∷ [])) why → StopIs w.store (Is u.store.order (true_places 0 controls)) why
-  control_stops w why stop =
-      stop_calls u v w (Is u.store.order (true_places 0 controls)) (variable_of i ∷ with_at v.store n i ∷ []) (variable_of i ∷ all_true (before ++ i ∷ []) ∷ []) h.grows same
-      (two_in u.store.order (true_places 0 controls) before i (true_places (suc i) (drop (suc i) controls)) whole_is) why stop
 
   conjoined : (w : StoreAndCache) (m : ℕ) → Grows v (IsPrefixOfSome v.store.order (variable_of i ∷ with_at v.store n i ∷ [])) w → Denotes w.store m (with_at v.store n i) → Conjoins u controls w m (suc i)
   conjoined w m g is = record {
-    grows = control_grows w g;
+    grows = grows_by control_serves g;
     node = denotes_as w.store m (with_at v.store n i) (all_true (true_places 0 (take (suc i) controls))) (with_is ∙ ap all_true (sym after_is)) is;
   }
 
@@ -175,3 +169,16 @@ unfolding variable_of
 both_on v e Is n m i s g live is =
     ap (λ (f : Function). λ x. f x && function_of e.store m x) (function_on v.store e.store n s.store g.sound.store g.extends live)
     ∙ ap (λ (f : Function). λ x. function_of v.store n x && f x) is
+
+-- its two calls
+module _ (v : StoreAndCache) (n i : ℕ) (s : IsConsistent v) where
+  abbrev Two : Property
+  Two = IsPrefixOfSome v.store.order (variable_of i ∷ with_at v.store n i ∷ [])
+
+  pub variable_serves : Serves v v Two (IsPrefixOf v.store.order (variable_of i))
+  variable_serves = record { grows = grows_none v Two s; wanted = λ p h. some_first v.store.order (variable_of i) (with_at v.store n i ∷ []) p h }
+
+  pub both_serves : (e : StoreAndCache) (m : ℕ) → IsLive v.store n → Grows v (IsPrefixOf v.store.order (variable_of i)) e → function_of e.store m ≡ variable_of i → Serves v e Two (IsPrefixOf e.store.order (both_at e.store n m))
+  both_serves e m live g is =
+      serves_one v e Two (both_at e.store n m) (with_at v.store n i) (grows_by variable_serves g) (both_on v e (IsPrefixOf v.store.order (variable_of i)) n m i s g live is)
+      (λ p h. some_later v.store.order (variable_of i) (with_at v.store n i ∷ []) p (some_first v.store.order (with_at v.store n i) [] p h))

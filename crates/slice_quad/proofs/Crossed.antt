@@ -1,20 +1,21 @@
 -- The calls of an exchange, by the functions of its definition.
-use Rattle.std.proofs.Common.{◌≡◌, ℕ, zero, suc, ◌<◌, ◌≤◌, Bool, true, false, max, List, [], ◌∷◌, get_or, length, refl, sym, ◌∙◌, ap, arith}
+use Rattle.std.proofs.Common.{◌≡◌, ℕ, zero, suc, ◌<◌, Bool, true, false, max, List, [], ◌∷◌, get_or, length, refl, ◌∙◌, ap, arith}
 use Rattle.std.specs.Prelude.{flat_map}
-use Rattle.node_store.specs.declared.node.StoreStop.{StoreStop}
 use Rattle.diagram_model.specs.Functions.{Function}
 use Rattle.diagram_model.specs.Stores.{function_of}
 use Rattle.diagram_ops.specs.Diagrams.{StoreAndCache, IsConsistent, variable_of}
-use Rattle.diagram_ops.specs.Made.{Property, StopIs, IsPrefixOfSome}
+use Rattle.diagram_ops.specs.Made.{Property, IsPrefixOfSome}
 use Rattle.slice_vec.specs.Digits.{Digits, chosen, fixed}
 use Rattle.slice_vec.specs.Growing.{Grows, Denotes}
 use Rattle.slice_vec.specs.Slices.{StandsIn, digits_of, first_bits, InFixed, InMerged, InChosen, IsFixed, IsMerged, IsChosen}
 use Rattle.slice_vec.proofs.Bits.{stands_on, digits_on}
-use Rattle.slice_vec.proofs.Growing.{grows_calls, stop_calls, some_left, some_right}
+use Rattle.slice_vec.proofs.Growing.{grows_none, some_left, some_right}
 use Rattle.slice_quad.specs.Crossings.{InExchange}
 use Rattle.slice_quad.specs.Exchange.{Exchange, fixed_both, by_second, by_first, exchange_digits, exchange_parts, exchange_functions}
 use Rattle.slice_quad.specs.Mix.{all_true}
 use Rattle.slice_quad.specs.Terms.{IsOf}
+use Rattle.slice_quad.proofs.Raws.{of_on}
+use Rattle.slice_quad.proofs.Serving.{Serves, serves_list, grows_by}
 
 -- the bits of one of several are among the bits of all
 bits_among : (vs : List ℕ) (w : ℕ) (ds : List Digits) (i : ℕ) (d : Digits) (p : Function) → i < length ds → IsPrefixOfSome vs (first_bits w (get_or ds i d)) p → IsPrefixOfSome vs (flat_map (first_bits w) ds) p
@@ -66,13 +67,6 @@ last_is : (e : Exchange) (A : Digits) → chosen (all_true e.controls) (by_first
 unfolding exchange_digits
 last_is e A = refl
 
-module _ (u v : StoreAndCache) (Is : Property) (k : Grows u Is v) (m n : ℕ) (s r : Digits) (em : m ≡ n) (es : s ≡ r) (wanted : (p : Function) → IsPrefixOfSome u.store.order (first_bits n r) p → Is p) where
-  bits_grows : (w : StoreAndCache) → Grows v (IsPrefixOfSome v.store.order (first_bits m s)) w → Grows u Is w
-  bits_grows w g = grows_calls u v w Is (first_bits m s) (first_bits n r) k g (lists_same m n s r em es) wanted
-
-  bits_stops : (w : StoreAndCache) (why : StoreStop) → StopIs w.store (IsPrefixOfSome v.store.order (first_bits m s)) why → StopIs w.store Is why
-  bits_stops w why stop = stop_calls u v w Is (first_bits m s) (first_bits n r) k (lists_same m n s r em es) wanted why stop
-
 module _ (u : StoreAndCache) (e : Exchange) (xs : List ℕ) (s : IsConsistent u) (hx : StandsIn u.store xs) (v : StoreAndCache) (k : Grows u (InExchange u.store e xs) v) where
   abbrev A : Digits
   A = digits_of u.store xs
@@ -86,17 +80,18 @@ module _ (u : StoreAndCache) (e : Exchange) (xs : List ℕ) (s : IsConsistent u)
   pub x_of : IsOf v.store W A xs
   x_of = record { stands = stands_on u v Is xs k hx; width = refl; digits = digits_on u v Is xs s k hx }
 
+  -- bits that are the definition's by another name
+  bits_serve : (m : ℕ) (a b : Digits) → m ≡ W → a ≡ b → ((p : Function) → IsPrefixOfSome u.store.order (first_bits W b) p → Is p) → Serves u v Is (IsPrefixOfSome v.store.order (first_bits m a))
+  bits_serve m a b em es wanted = serves_list u v Is (first_bits m a) (first_bits W b) k (lists_same m W a b em es) wanted
+
   fix_wanted : (b : Bool) (p : Function) → IsPrefixOfSome u.store.order (first_bits W (fixed e.first b A)) p → Is p
   fix_wanted true p h = high_wanted u.store.order W e A p h
   fix_wanted false p h = low_wanted u.store.order W e A p h
 
-  pub fix_grows : (b : Bool) (w : StoreAndCache) → Grows v (InFixed v.store e.first b xs) w → Grows u Is w
-  fix_grows b w g = bits_grows u v Is k W W (fixed e.first b (digits_of v.store xs)) (fixed e.first b A) refl (ap (fixed e.first b) x_of.digits) (fix_wanted b) w g
+  pub fix_serves : (b : Bool) → Serves u v Is (InFixed v.store e.first b xs)
+  fix_serves b = bits_serve W (fixed e.first b (digits_of v.store xs)) (fixed e.first b A) refl (ap (fixed e.first b) x_of.digits) (fix_wanted b)
 
-  pub fix_stops : (b : Bool) (w : StoreAndCache) (why : StoreStop) → StopIs w.store (InFixed v.store e.first b xs) why → StopIs w.store Is why
-  fix_stops b w why stop = bits_stops u v Is k W W (fixed e.first b (digits_of v.store xs)) (fixed e.first b A) refl (ap (fixed e.first b) x_of.digits) (fix_wanted b) w why stop
-
-  pub fix_of : (b : Bool) (w : StoreAndCache) (ns : List ℕ) → IsFixed v.store w.store e.first b xs ns → IsOf w.store W (fixed e.first b A) ns
+  fix_of : (b : Bool) (w : StoreAndCache) (ns : List ℕ) → IsFixed v.store w.store e.first b xs ns → IsOf w.store W (fixed e.first b A) ns
   fix_of b w ns h = record { stands = h.stands; width = h.width; digits = h.digits ∙ ap (fixed e.first b) x_of.digits }
 
   second_wanted : (b : Bool) (p : Function) → IsPrefixOfSome u.store.order (first_bits W (by_second e A b)) p → Is p
@@ -115,11 +110,8 @@ module _ (u : StoreAndCache) (e : Exchange) (xs : List ℕ) (s : IsConsistent u)
     wide : max (length ys) (length zs) ≡ W
     wide = omega (arith, oy.width, oz.width)
 
-    pub merge_grows : (w : StoreAndCache) → Grows v (InMerged v.store e.second b ys zs) w → Grows u Is w
-    merge_grows w g = bits_grows u v Is k (max (length ys) (length zs)) W Met (by_second e A b) wide met (second_wanted b) w g
-
-    pub merge_stops : (w : StoreAndCache) (why : StoreStop) → StopIs w.store (InMerged v.store e.second b ys zs) why → StopIs w.store Is why
-    merge_stops w why stop = bits_stops u v Is k (max (length ys) (length zs)) W Met (by_second e A b) wide met (second_wanted b) w why stop
+    pub merge_serves : Serves u v Is (InMerged v.store e.second b ys zs)
+    merge_serves = bits_serve (max (length ys) (length zs)) Met (by_second e A b) wide met (second_wanted b)
 
     pub merge_of : (w : StoreAndCache) (ns : List ℕ) → IsMerged v.store w.store e.second b ys zs ns → IsOf w.store W (by_second e A b) ns
     merge_of w ns h = record { stands = h.stands; width = h.width ∙ wide; digits = h.digits ∙ met }
@@ -135,31 +127,57 @@ module _ (u : StoreAndCache) (e : Exchange) (xs : List ℕ) (s : IsConsistent u)
     wide_too : max (length ys) (length zs) ≡ W
     wide_too = omega (arith, oy.width, oz.width)
 
-    choice_grows : (w : StoreAndCache) → Grows v (InChosen v.store n ys zs) w → Grows u Is w
-    choice_grows w g = bits_grows u v Is k (max (length ys) (length zs)) W Had r wide_too had wanted w g
-
-    choice_stops : (w : StoreAndCache) (why : StoreStop) → StopIs w.store (InChosen v.store n ys zs) why → StopIs w.store Is why
-    choice_stops w why stop = bits_stops u v Is k (max (length ys) (length zs)) W Had r wide_too had wanted w why stop
+    choice_serves : Serves u v Is (InChosen v.store n ys zs)
+    choice_serves = bits_serve (max (length ys) (length zs)) Had r wide_too had wanted
 
     choice_of : (w : StoreAndCache) (ns : List ℕ) → IsChosen v.store w.store n ys zs ns → IsOf w.store W r ns
     choice_of w ns h = record { stands = h.stands; width = h.width ∙ wide_too; digits = h.digits ∙ had }
 
   module _ (n : ℕ) (ys zs : List ℕ) (dn : Denotes v.store n (variable_of e.first)) (oy : IsOf v.store W (by_second e A true) ys) (oz : IsOf v.store W (by_second e A false) zs) where
-    pub first_grows : (w : StoreAndCache) → Grows v (InChosen v.store n ys zs) w → Grows u Is w
-    first_grows w g = choice_grows n (variable_of e.first) ys zs (by_second e A true) (by_second e A false) (by_first e A) dn oy oz (first_is e A) (first_wanted u.store.order W e A) w g
-
-    pub first_stops : (w : StoreAndCache) (why : StoreStop) → StopIs w.store (InChosen v.store n ys zs) why → StopIs w.store Is why
-    first_stops w why stop = choice_stops n (variable_of e.first) ys zs (by_second e A true) (by_second e A false) (by_first e A) dn oy oz (first_is e A) (first_wanted u.store.order W e A) w why stop
+    pub first_serves : Serves u v Is (InChosen v.store n ys zs)
+    first_serves = choice_serves n (variable_of e.first) ys zs (by_second e A true) (by_second e A false) (by_first e A) dn oy oz (first_is e A) (first_wanted u.store.order W e A)
 
     pub first_of : (w : StoreAndCache) (ns : List ℕ) → IsChosen v.store w.store n ys zs ns → IsOf w.store W (by_first e A) ns
     first_of w ns h = choice_of n (variable_of e.first) ys zs (by_second e A true) (by_second e A false) (by_first e A) dn oy oz (first_is e A) (first_wanted u.store.order W e A) w ns h
 
   module _ (n : ℕ) (ys : List ℕ) (dn : Denotes v.store n (all_true e.controls)) (oy : IsOf v.store W (by_first e A) ys) where
-    pub last_grows : (w : StoreAndCache) → Grows v (InChosen v.store n ys xs) w → Grows u Is w
-    last_grows w g = choice_grows n (all_true e.controls) ys xs (by_first e A) A (exchange_digits e A) dn oy x_of (last_is e A) (last_wanted u.store.order W e A) w g
-
-    pub last_stops : (w : StoreAndCache) (why : StoreStop) → StopIs w.store (InChosen v.store n ys xs) why → StopIs w.store Is why
-    last_stops w why stop = choice_stops n (all_true e.controls) ys xs (by_first e A) A (exchange_digits e A) dn oy x_of (last_is e A) (last_wanted u.store.order W e A) w why stop
+    pub last_serves : Serves u v Is (InChosen v.store n ys xs)
+    last_serves = choice_serves n (all_true e.controls) ys xs (by_first e A) A (exchange_digits e A) dn oy x_of (last_is e A) (last_wanted u.store.order W e A)
 
     pub last_of : (w : StoreAndCache) (ns : List ℕ) → IsChosen v.store w.store n ys xs ns → IsOf w.store W (exchange_digits e A) ns
     last_of w ns h = choice_of n (all_true e.controls) ys xs (by_first e A) A (exchange_digits e A) dn oy x_of (last_is e A) (last_wanted u.store.order W e A) w ns h
+
+-- v has grown from u, and there the first variable is fixed each way
+pub record AreFixed (u v : StoreAndCache) (e : Exchange) (xs low high : List ℕ) : Type 0 where
+  pub grows : Grows u (InExchange u.store e xs) v
+  pub clear : IsOf v.store (length xs) (fixed e.first false (digits_of u.store xs)) low
+  pub set : IsOf v.store (length xs) (fixed e.first true (digits_of u.store xs)) high
+
+module _ (u : StoreAndCache) (e : Exchange) (xs : List ℕ) (s : IsConsistent u) (hx : StandsIn u.store xs) where
+  pub low_serves : Serves u u (InExchange u.store e xs) (InFixed u.store e.first false xs)
+  low_serves = fix_serves u e xs s hx u (grows_none u (InExchange u.store e xs) s) false
+
+  module _ (v : StoreAndCache) (g : Grows u (InFixed u.store e.first false xs) v) where
+    pub high_serves : Serves u v (InExchange u.store e xs) (InFixed v.store e.first true xs)
+    high_serves = fix_serves u e xs s hx v (grows_by low_serves g) true
+
+    pub are_fixed : (w : StoreAndCache) (low high : List ℕ) → IsFixed u.store v.store e.first false xs low → Grows v (InFixed v.store e.first true xs) w → IsFixed v.store w.store e.first true xs high → AreFixed u w e xs low high
+    are_fixed w low high l h r = record {
+      grows = grows_by high_serves h;
+      clear = of_on v w (InFixed v.store e.first true xs) (length xs) (fixed e.first false (digits_of u.store xs)) low g.sound h (fix_of u e xs s hx u (grows_none u (InExchange u.store e xs) s) false v low l);
+      set = fix_of u e xs s hx v (grows_by low_serves g) true w high r;
+    }
+
+  module _ (v : StoreAndCache) (low high : List ℕ) (f : AreFixed u v e xs low high) (b : Bool) where
+    pub either_serves : Serves u v (InExchange u.store e xs) (InMerged v.store e.second b high low)
+    either_serves = merge_serves u e xs s hx v f.grows high low f.set f.clear b
+
+    pub either_of : (w : StoreAndCache) (ns : List ℕ) → IsMerged v.store w.store e.second b high low ns → IsOf w.store (length xs) (by_second e (digits_of u.store xs) b) ns
+    either_of w ns h = merge_of u e xs s hx v f.grows high low f.set f.clear b w ns h
+
+    pub fixed_after : (w : StoreAndCache) → Grows v (InMerged v.store e.second b high low) w → AreFixed u w e xs low high
+    fixed_after w g = record {
+      grows = grows_by either_serves g;
+      clear = of_on v w (InMerged v.store e.second b high low) (length xs) (fixed e.first false (digits_of u.store xs)) low f.grows.sound g f.clear;
+      set = of_on v w (InMerged v.store e.second b high low) (length xs) (fixed e.first true (digits_of u.store xs)) high f.grows.sound g f.set;
+    }

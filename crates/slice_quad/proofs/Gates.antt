@@ -2,7 +2,7 @@
 use Rattle.std.proofs.Common.{◌≡◌, ℕ, ◌<◌, Bool, true, false, cond, inl, refl, sym, ◌∙◌, ap, arith}
 use Rattle.std.specs.Prelude.{◌&&◌, not}
 use mathlib.Core.Path.{fun_ext}
-use Rattle.diagram_model.specs.Functions.{Assignment, Function}
+use Rattle.diagram_model.specs.Functions.{Function}
 use Rattle.diagram_model.specs.Stores.{Diagram, IsSound, function_of}
 use Rattle.diagram_ops.specs.Connectives.{connective, connected}
 use Rattle.diagram_ops.specs.Diagrams.{StoreAndCache, IsConsistent}

@@ -1,5 +1,5 @@
 -- The nodes of the identity matrix: three for each qubit.
-use Rattle.std.proofs.Common.{◌≡◌, ◌≢◌, ◌⊎◌, ℕ, zero, suc, ◌+◌, ◌-◌, ◌*◌, ◌<◌, ◌≤◌, Bool, true, false, cond, not, ◌&&◌, eqb, List, [], ◌∷◌, length, Option, Some, None, inl, inr, refl, sym, ◌∙◌, ap, arith, subst}
+use Rattle.std.proofs.Common.{◌≡◌, ℕ, zero, suc, ◌+◌, ◌-◌, ◌*◌, ◌<◌, ◌≤◌, Bool, true, false, cond, ◌&&◌, eqb, List, ◌∷◌, length, Option, Some, None, inl, inr, refl, sym, ◌∙◌, ap, arith, subst}
 use Rattle.std.proofs.Math.Path.{ap₂}
 use Rattle.std.proofs.lemmas.Bool.{cases_eq, cond-false, ne_eqb}
 use Rattle.std.specs.List.{range_with_len}
@@ -9,12 +9,12 @@ use Rattle.bit_lists.specs.Orders.{has, after}
 use Rattle.diagram_model.specs.declared.parts.Parts.{Parts}
 use Rattle.diagram_model.specs.Functions.{Assignment, Function, put}
 use Rattle.diagram_model.specs.Size.{same_bool}
-use Rattle.diagram_model.specs.Nodes.{parts_of, value, IsLiveIn, IsHeldIn}
+use Rattle.diagram_model.specs.Nodes.{parts_of, value, IsLiveIn}
 use Rattle.diagram_model.specs.Stores.{Diagram, held, IsSound, IsLive, IsAbove, Extends, AddsOnly, IsChoice, function_of, from}
 use Rattle.diagram_model.proofs.Canonical.{after-tail, after-head, some_same}
 use Rattle.diagram_model.proofs.Values.{value-small}
 use Rattle.diagram_model.proofs.Fixing.{ignores_above, put_at, live_from_order}
-use Rattle.diagram_model.proofs.Growing.{functions_kept, above_on, live_on}
+use Rattle.diagram_model.proofs.Growing.{functions_kept, live_on}
 use Rattle.node_store.specs.Makes.{StopMeans}
 use Rattle.node_store.specs.declared.node.StoreStop.{StoreStop}
 use Rattle.node_store.specs.declared.node.StoreStop.TheVariants.{Full, OutOfMemory}

@@ -1,7 +1,9 @@
 pub mod BitLemmas
 pub mod Calls
+pub mod Chains
 pub mod Columns
 pub mod Conjoined
+pub mod Connected
 pub mod Crossed
 pub mod CrossingCalls
 pub mod DiagonalCalls
@@ -14,13 +16,13 @@ pub mod Gathered
 pub mod Heres
 pub mod IdentityNodes
 pub mod IdentityParts
-pub mod MixChains
 pub mod MixLemmas
 pub mod Narrow
 pub mod Onwards
 pub mod RawValues
 pub mod Raws
 pub mod RowsColumns
+pub mod Serving
 pub mod Settling
 pub mod Starting
 pub mod Starts

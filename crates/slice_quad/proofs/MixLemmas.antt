@@ -1,23 +1,21 @@
 -- The bits of raw stand for the gate's matrix times the vector.
-use Rattle.std.proofs.Common.{◌≡◌, ◌⊎◌, ℕ, zero, suc, ◌+◌, ◌-◌, ◌*◌, ◌^◌, ◌<◌, ◌≤◌, ℤ, pos, ◌+ℤ◌, ◌-ℤ◌, neg_ℤ, Bool, true, false, cond, inl, inr, refl, sym, ◌∙◌, ap, arith, List, [], ◌∷◌}
-use Rattle.std.specs.Prelude.{not, ◌&&◌}
+use Rattle.std.proofs.Common.{◌≡◌, ℕ, zero, suc, ℤ, pos, ◌+ℤ◌, ◌-ℤ◌, neg_ℤ, Bool, true, false, cond, inl, inr, refl, sym, ◌∙◌, ap, arith}
+use Rattle.std.specs.Prelude.{not}
 use Rattle.std.proofs.lemmas.Int.{ints}
 use Rattle.std.proofs.lemmas.Bool.{cases_Bool, cond-true, cond-false}
 use Rattle.diagram_model.specs.Functions.{put}
-use Rattle.diagram_model.specs.Functions.{Function, fix}
-use Rattle.slice_vec.specs.Digits.{Digits, low_sum, slice_value, IsSteady, chosen, fixed, negated, sum}
-use Rattle.slice_vec.proofs.DigitLemmas.{value-steady, value-sum, value-negated, value-chosen, value_same, value-fixed, steady-sum, steady-negated, steady-chosen, steady-fixed}
+use Rattle.slice_vec.specs.Digits.{low_sum, slice_value, IsSteady, chosen, fixed, negated}
+use Rattle.slice_vec.proofs.DigitLemmas.{value-steady, value-sum, value-negated, value-chosen, value-fixed, steady-negated, steady-chosen, steady-fixed}
 use Rattle.ring_omega.specs.declared.quad.Quad.{Quad}
-use Rattle.ring_omega.specs.Ring.{quad, zero_quad, sum_of, product_of, omega_unit, root_of_two, times_power}
+use Rattle.ring_omega.specs.Ring.{zero_quad, sum_of, product_of, omega_unit, root_of_two, times_power}
 use Rattle.ring_omega.proofs.RingLemmas.{times_root-is}
 use Rattle.slice_quad.specs.declared.coord.Coord.{Coord}
 use Rattle.slice_quad.specs.declared.coord.Coord.TheVariants.{A, B, C, D}
-use Rattle.slice_quad.specs.declared.coord.Turn.{Turn}
 use Rattle.gate_set.specs.declared.entry.Entry.{Entry}
 use Rattle.gate_set.specs.declared.entry.Entry.TheVariants.{Zero, Omega, Root2}
-use Rattle.slice_quad.specs.Turns.{coordinate, flip, turn, root_turn, signed}
+use Rattle.slice_quad.specs.Turns.{coordinate, turn, root_turn, signed}
 use Rattle.gate_set.specs.Matrix.{times_entry, IsPower}
-use Rattle.slice_quad.specs.Mix.{Mix, Vector, all_true, elsewhere, mixed, Coordinates, vector_of, zero_digits, entry_digits, entry_negates, from_row, from_target, old_part, old_negates, term, negates, signed_term, raw}
+use Rattle.slice_quad.specs.Mix.{Mix, all_true, elsewhere, mixed, Coordinates, vector_of, zero_digits, entry_digits, entry_negates, from_row, from_target, old_part, old_negates, term, negates, signed_term, raw}
 
 -- times ω, coordinate by coordinate
 omega_a : (q : Quad) → (product_of q omega_unit).a ≡ q.b

@@ -1,12 +1,12 @@
 -- How many bits a value asks for, and signs that are repeated.
-use Rattle.std.proofs.Common.{◌≡◌, ℕ, suc, ◌+◌, ◌-◌, ◌<◌, ◌≤◌, ◌↔◌, max, List, [], ◌∷◌, ◌++◌, length, get_or, take, inl, inr, refl, sym, ◌∙◌, ap, arith, length-append}
+use Rattle.std.proofs.Common.{◌≡◌, ℕ, suc, ◌+◌, ◌-◌, ◌<◌, ◌≤◌, ◌↔◌, List, [], ◌∷◌, ◌++◌, length, get_or, take, inl, inr, refl, sym, ◌∙◌, ap, arith, length-append}
 use Rattle.std.proofs.lemmas.List.{length-take, get_or-take, get_or_append_left}
 use Rattle.std.proofs.Math.Seq.{get_or-append_seam}
 use mathlib.Core.Path.{fun_ext}
 use Rattle.diagram_model.specs.Functions.{Assignment}
-use Rattle.diagram_model.specs.Stores.{Diagram, IsSound, IsLive, function_of}
+use Rattle.diagram_model.specs.Stores.{Diagram, IsSound, function_of}
 use Rattle.slice_vec.specs.Digits.{Digits, slice_value, IsSteady}
-use Rattle.slice_vec.specs.Slices.{bit_node, sign_node, digits_of, value_at, StandsIn, SameValues, IsSame, IsFewest, IsWithin, AreWithin}
+use Rattle.slice_vec.specs.Slices.{bit_node, sign_node, digits_of, value_at, StandsIn, SameValues, IsSame, IsFewest, AreWithin}
 use Rattle.slice_vec.proofs.Bits.{lt_or_le, bit_within, bit_beyond, bit_live, steady-digits, value_on}
 use Rattle.slice_vec.proofs.Ranges.{InRange, value-in_range, range-wider, sign-repeated}
 use Rattle.slice_vec.proofs.Trims.{one_node}
@@ -15,8 +15,7 @@ use Rattle.slice_quad.specs.declared.coord.Coord.TheVariants.{A, B, C, D}
 use Rattle.slice_quad.specs.declared.four.Four.{Four}
 use Rattle.slice_quad.specs.Fours.{nodes_of}
 use Rattle.slice_quad.specs.Mix.{Vector}
-use Rattle.slice_quad.specs.Settled.{HasBits, AreSame, widest}
-use Rattle.slice_quad.specs.Turns.{coordinate}
+use Rattle.slice_quad.specs.Settled.{AreSame, widest}
 use Rattle.slice_quad.specs.Vectors.{AreValues, FitsWidth}
 
 -- integers with the same bits have the same values

@@ -1,22 +1,19 @@
 -- The values of raw.
-use Rattle.std.proofs.Common.{◌≡◌, ℕ, zero, suc, ◌+◌, ◌-◌, ◌<◌, ◌≤◌, ◌↔◌, ℤ, Bool, true, false, List, [], ◌∷◌, length, inl, inr, refl, sym, ◌∙◌, ap, arith}
-use Rattle.std.specs.Prelude.{◌&&◌, IsTrue}
+use Rattle.std.proofs.Common.{◌≡◌, ℕ, suc, ◌-◌, ◌≤◌, Bool, length, refl, sym, ◌∙◌, ap, arith}
 use Rattle.diagram_model.specs.Functions.{Assignment}
-use Rattle.diagram_model.specs.Stores.{Diagram, IsSound}
+use Rattle.diagram_model.specs.Stores.{Diagram}
 use Rattle.slice_vec.specs.Digits.{Digits, IsSteady, slice_value}
-use Rattle.slice_vec.specs.Slices.{StandsIn, IsWithin, AreWithin, digits_of, value_at}
+use Rattle.slice_vec.specs.Slices.{digits_of, value_at}
 use Rattle.slice_vec.proofs.Bits.{steady-digits, value_on}
 use Rattle.slice_quad.specs.declared.coord.Coord.{Coord}
 use Rattle.slice_quad.specs.declared.coord.Coord.TheVariants.{A, B, C, D}
 use Rattle.slice_quad.specs.declared.four.Four.{Four}
 use Rattle.gate_set.specs.Matrix.{IsPower}
-use Rattle.slice_quad.specs.Turns.{coordinate}
-use Rattle.slice_quad.specs.Mix.{Mix, Vector, Coordinates, vector_of, mixed, raw}
+use Rattle.slice_quad.specs.Mix.{Mix, Vector, vector_of, mixed, raw}
 use Rattle.slice_quad.specs.Fours.{nodes_of, digits_in, AreIntegers}
-use Rattle.slice_quad.specs.Raws.{IsRaw, AreRaw}
+use Rattle.slice_quad.specs.Raws.{AreRaw}
 use Rattle.slice_quad.specs.Vectors.{vector_in, AreValues}
 use Rattle.slice_quad.proofs.MixLemmas.{raw-value}
-use Rattle.slice_quad.proofs.Diagonals.{steady-raw}
 use Rattle.slice_quad.proofs.DiagonalCalls.{steady_in}
 
 -- the vector, by its bits

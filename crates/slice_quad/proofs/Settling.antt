@@ -1,19 +1,18 @@
 -- Factors of 2, taken out one after another.
-use Rattle.std.proofs.Common.{◌≡◌, ℕ, zero, suc, ◌+◌, ◌-◌, ◌*◌, ◌^◌, ◌<◌, ◌≤◌, ℤ, pos, ◌+ℤ◌, neg_ℤ, Bool, true, false, List, length, inl, inr, refl, sym, ◌∙◌, ap, arith}
+use Rattle.std.proofs.Common.{◌≡◌, ℕ, suc, ◌-◌, ◌^◌, ◌<◌, ◌≤◌, ℤ, pos, ◌+ℤ◌, neg_ℤ, Bool, true, false, List, length, sym, ◌∙◌, ap, arith}
 use Rattle.std.specs.Prelude.{◌<ℤ◌, ◌≤ℤ◌}
 use Rattle.std.proofs.lemmas.Int.{ints}
 use Rattle.diagram_model.specs.Functions.{Assignment}
 use Rattle.diagram_model.specs.Stores.{Diagram}
-use Rattle.slice_vec.specs.Slices.{StandsIn, AreEven, IsEven, IsDouble, digits_of, value_at}
+use Rattle.slice_vec.specs.Slices.{StandsIn, AreEven, IsDouble, digits_of, value_at}
 use Rattle.slice_vec.proofs.Ranges.{InRange, value-in_range}
 use Rattle.slice_quad.specs.declared.coord.Coord.{Coord}
 use Rattle.slice_quad.specs.declared.coord.Coord.TheVariants.{A, B, C, D}
 use Rattle.slice_quad.specs.declared.four.Four.{Four}
-use Rattle.slice_quad.specs.Turns.{coordinate}
 use Rattle.slice_quad.specs.Mix.{Vector}
 use Rattle.slice_quad.specs.Fours.{nodes_of}
 use Rattle.slice_quad.specs.Vectors.{AreValues}
-use Rattle.slice_quad.specs.Settled.{HasBits, doubled, AreDoubles, IsHalfway, IsSettled}
+use Rattle.slice_quad.specs.Settled.{HasBits, doubled, AreDoubles, IsHalfway}
 
 zero_double : (v h : ℤ) → v ≡ h +ℤ h → neg_ℤ (pos 1) ≤ℤ v → v <ℤ pos 1 → v ≡ v +ℤ v
 zero_double v h e low high = omega (arith, ints, e, low, high)

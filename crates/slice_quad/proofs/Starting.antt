@@ -1,81 +1,27 @@
 -- One node more for the next variable up.
 use Rattle.std.proofs.Common.{◌≡◌, ◌≢◌, ◌⊎◌, ℕ, zero, suc, ◌+◌, ◌-◌, ◌<◌, ◌≤◌, Bool, true, false, cond, not, eqb, List, [], ◌∷◌, length, drop, Option, Some, None, get_or, is_some, count_by, inl, inr, refl, sym, ◌∙◌, ap, arith, subst, eq-eqb}
 use Rattle.std.proofs.lemmas.Bool.{cases_Bool, cases_eq, cond-true, cond-false, ne_eqb}
-use Rattle.std.proofs.lemmas.List.Sums.{sum_by-cons}
 use Rattle.bit_lists.specs.Orders.{has, after, AreVars}
 use Rattle.diagram_model.specs.declared.parts.Parts.{Parts}
 use Rattle.diagram_model.specs.Functions.{Assignment, Function, bit, put}
-use Rattle.diagram_model.specs.Nodes.{parts_of, value, IsLiveIn, IsHeldIn}
+use Rattle.diagram_model.specs.Nodes.{parts_of, value, IsLiveIn}
 use Rattle.diagram_model.specs.Stores.{Diagram, held, IsSound, IsLive, IsAbove, Extends, KeepsFunctions, AddsOnly, IsChoice, function_of, from}
 use Rattle.diagram_model.proofs.Canonical.{after-tail, after-head, some_same}
 use Rattle.diagram_model.proofs.Values.{value-small}
 use Rattle.diagram_model.proofs.Fixing.{ignores_above, above_live, put_at}
 use Rattle.slice_quad.specs.Started.{IsBuilt, StartStopIs}
+use Rattle.node_store.proofs.Freed.{count_cons, held_put, one_held}
 use Rattle.node_store.specs.Makes.{StopMeans}
 use Rattle.node_store.specs.declared.node.StoreStop.{StoreStop}
 use Rattle.node_store.specs.declared.node.StoreStop.TheVariants.{Full, OutOfMemory}
 
 -- counting
 
--- 1 for a node
-one : Option Parts → ℕ
-one o = cond {A = ℕ} (is_some o) 1 0
-
--- how many nodes there are
-tally : List (Option Parts) → ℕ
-tally [] = 0
-tally (o ∷ s) = cond {A = ℕ} (is_some o) 1 0 + tally s
-
--- the same as held
-tally_is : (s : List (Option Parts)) → count_by is_some s ≡ tally s
-unfolding one tally
-tally_is [] = refl
-tally_is (None ∷ s) = let rest = tally_is s in omega (arith, rest, sum_by-cons one None s)
-tally_is (Some p ∷ s) = let rest = tally_is s in omega (arith, rest, sum_by-cons one (Some p) s)
-
--- no node counts 0
-none_counts : (o : Option Parts) → o ≡ None → cond {A = ℕ} (is_some o) 1 0 ≡ 0
-none_counts None e = refl
-none_counts (Some p) e = cc
-
--- a node counts 1
-some_counts : (o : Option Parts) (p : Parts) → o ≡ Some p → cond {A = ℕ} (is_some o) 1 0 ≡ 1
-some_counts (Some q) p e = refl
-some_counts None p e = cc
-
--- no node at all
-tally_none : (s : List (Option Parts)) → ((m : ℕ) → parts_of s m ≡ None) → tally s ≡ 0
-unfolding tally
-tally_none [] h = refl
-tally_none (o ∷ s) h = let a = none_counts o (h 0) in let rest = tally_none s (λ m. h (suc m)) in omega (arith, a, rest)
-
--- the same nodes
-tally_same : (s t : List (Option Parts)) → ((m : ℕ) → parts_of t m ≡ parts_of s m) → tally t ≡ tally s
-unfolding tally
-tally_same [] t h = tally_none t h
-tally_same (o ∷ s) [] h = sym (tally_none (o ∷ s) (λ m. sym (h m)))
-tally_same (o ∷ s) (u ∷ t) h =
-    let a : cond {A = ℕ} (is_some u) 1 0 ≡ cond {A = ℕ} (is_some o) 1 0 = ap (λ w. cond {A = ℕ} (is_some w) 1 0) (h 0) in
-    let rest = tally_same s t (λ m. h (suc m)) in omega (arith, a, rest)
-
--- one node more
-tally_one : (n : ℕ) (s t : List (Option Parts)) (p : Parts) → parts_of s n ≡ None → parts_of t n ≡ Some p → ((m : ℕ) → m ≢ n → parts_of t m ≡ parts_of s m) → tally t ≡ suc (tally s)
-unfolding tally
-tally_one n s [] p free here others = cc
-tally_one zero [] (u ∷ t) p free here others = let a = some_counts u p here in let rest = tally_none t (λ m. others (suc m) (λ e. cc)) in omega (arith, a, rest)
-tally_one zero (o ∷ s) (u ∷ t) p free here others =
-    let a = some_counts u p here in let z = none_counts o free in let rest = tally_same s t (λ m. others (suc m) (λ e. cc)) in omega (arith, a, z, rest)
-tally_one (suc n) [] (u ∷ t) p free here others =
-    let a = none_counts u (others 0 (λ e. cc)) in
-    let rest = tally_one n [] t p refl here (λ m ne. others (suc m) (λ e. ne (omega (arith, e)))) in omega (arith, a, rest)
-tally_one (suc n) (o ∷ s) (u ∷ t) p free here others =
-    let a : cond {A = ℕ} (is_some u) 1 0 ≡ cond {A = ℕ} (is_some o) 1 0 = ap (λ w. cond {A = ℕ} (is_some w) 1 0) (others 0 (λ e. cc)) in
-    let rest = tally_one n s t p free here (λ m ne. others (suc m) (λ e. ne (omega (arith, e)))) in omega (arith, a, rest)
-
 -- one node more is held
 pub held_one : (d e : Diagram) (n : ℕ) (p : Parts) → Extends d e → AddsOnly d e n → parts_of d.slots n ≡ None → parts_of e.slots n ≡ Some p → held e ≡ suc (held d)
 held_one d e n p ext only free here =
-    tally_is e.slots ∙ tally_one n d.slots e.slots p free here (λ m ne. either m ne (parts_of e.slots m) (parts_of d.slots m) refl refl) ∙ ap suc (sym (tally_is d.slots))
+    let count : held e ≡ held d + 1 = held_put d.slots e.slots n p (record { free = free; here = here; others = λ m ne. either m ne (parts_of e.slots m) (parts_of d.slots m) refl refl }) in
+    omega (arith, count)
   where
     either : (m : ℕ) → m ≢ n → (o u : Option Parts) → parts_of e.slots m ≡ o → parts_of d.slots m ≡ u → parts_of e.slots m ≡ parts_of d.slots m
     either m ne (Some q) u eo eu = elim (only m q eo) [ inl old ↦ eo ∙ sym old | inr same ↦ absurd (ne same) ]
@@ -259,17 +205,15 @@ module _ (d0 d e : Diagram) (x : List Bool) (k j n m v : ℕ) (b : Bool) (h : Is
     count = let c = h.count in let more = count_more in omega (arith, c, more, at);
   }
 
--- some node
-tally_some : (s : List (Option Parts)) (m : ℕ) (p : Parts) → parts_of s m ≡ Some p → 0 < tally s
-unfolding tally
-tally_some [] m p eq = cc
-tally_some (Some q ∷ s) m p eq = omega arith
-tally_some (None ∷ s) zero p eq = cc
-tally_some (None ∷ s) (suc m) p eq = let h = tally_some s m p eq in omega (arith, h)
+-- some node is held
+some_counted : (s : List (Option Parts)) (m : ℕ) (p : Parts) → parts_of s m ≡ Some p → 0 < count_by is_some s
+some_counted [] m p eq = cc
+some_counted (Some q ∷ s) m p eq = omega (arith, count_cons is_some (Some q) s, one_held q)
+some_counted (None ∷ s) zero p eq = cc
+some_counted (None ∷ s) (suc m) p eq = let h = some_counted s m p eq in omega (arith, h, count_cons is_some None s)
 
--- so some is held
 pub held_some : (d : Diagram) (m : ℕ) (p : Parts) → parts_of d.slots m ≡ Some p → 0 < held d
-held_some d m p eq = let some = tally_some d.slots m p eq in let is = tally_is d.slots in omega (arith, some, is)
+held_some d m p eq = some_counted d.slots m p eq
 
 -- nothing stands behind the end
 drop_all : (vs : List ℕ) (v : ℕ) → has (drop (length vs) vs) v ≡ true → ⊥
@@ -283,7 +227,7 @@ built_none d x k sound empty at = record {
   sound = sound;
   order = refl;
   limit = refl;
-  below = λ m p eq. let some = tally_some d.slots m p eq in let is = tally_is d.slots in absurd (omega (arith, some, is, empty));
+  below = λ m p eq. let some = held_some d m p eq in absurd (omega (arith, some, empty));
   live = inl (omega arith);
   on = λ y same. value-small d.slots (length d.order) d.order 1 sound.diagram (omega arith) y;
   off = λ y v inside ne. absurd (drop_all d.order v (subst (λ j. has (drop j d.order) v ≡ true) at inside));

@@ -1,14 +1,14 @@
 -- The vector of a basis state, from its node.
-use Rattle.std.proofs.Common.{◌≡◌, ◌≢◌, ◌⊎◌, ℕ, zero, suc, ◌+◌, ◌-◌, ◌*◌, ◌^◌, ◌<◌, ◌≤◌, ℤ, pos, ◌-ℤ◌, Bool, true, false, List, [], ◌∷◌, length, drop, replicate, get_or, inl, inr, refl, sym, ◌∙◌, ap, arith, subst}
+use Rattle.std.proofs.Common.{◌≡◌, ◌≢◌, ◌⊎◌, ℕ, zero, suc, ◌+◌, ◌*◌, ◌^◌, ◌<◌, ℤ, pos, ◌-ℤ◌, Bool, true, false, List, [], ◌∷◌, length, replicate, get_or, inl, inr, refl, sym, ◌∙◌, ap, arith, subst}
 use Rattle.std.proofs.lemmas.Int.{ints}
 use Rattle.bit_lists.specs.Orders.{has}
-use Rattle.diagram_model.specs.Functions.{Assignment, Function, bit}
+use Rattle.diagram_model.specs.Functions.{Assignment, bit}
 use Rattle.diagram_model.specs.Nodes.{value, IsLiveIn}
-use Rattle.diagram_model.specs.Stores.{Diagram, IsSound, IsLive, function_of, held}
+use Rattle.diagram_model.specs.Stores.{Diagram, IsSound, IsLive, function_of}
 use Rattle.diagram_model.proofs.Values.{value-small}
 use Rattle.diagram_ops.specs.Connectives.{number}
-use Rattle.ring_omega.specs.Ring.{quad, zero_quad, one_quad}
-use Rattle.slice_vec.specs.Digits.{Digits, low_sum, slice_value}
+use Rattle.ring_omega.specs.Ring.{quad}
+use Rattle.slice_vec.specs.Digits.{low_sum, slice_value}
 use Rattle.slice_vec.specs.Slices.{StandsIn, digits_of, value_at}
 use Rattle.slice_vec.proofs.Zeros.{zero_stands, zero_values}
 use Rattle.slice_quad.specs.declared.coord.Coord.{Coord}

@@ -1,17 +1,16 @@
 -- A step, from the functions of its kind to its work functions.
-use Rattle.std.proofs.Common.{◌≡◌, ℕ, ◌+◌, ◌-◌, ◌*◌, ◌<◌, ◌≤◌, Bool, List, [], ◌∷◌, length, Result, Ok, Err, refl, sym, ◌∙◌, ap, subst, arith}
+use Rattle.std.proofs.Common.{◌≡◌, ℕ, ◌-◌, Bool, List, length, Result, refl, sym, ◌∙◌, ap, subst}
 use Rattle.std.specs.Prelude.{IfOk, IfErr}
 use mathlib.Core.Path.{fun_ext}
 use Rattle.node_store.specs.declared.node.StoreStop.{StoreStop}
 use Rattle.node_store.specs.declared.node.StoreStop.TheVariants as store
 use Rattle.diagram_model.specs.Functions.{Function}
-use Rattle.diagram_model.specs.Stores.{Diagram, IsLive, IsSound, function_of}
-use Rattle.diagram_ops.specs.Diagrams.{StoreAndCache, IsConsistent}
+use Rattle.diagram_model.specs.Stores.{Diagram, function_of}
+use Rattle.diagram_ops.specs.Diagrams.{StoreAndCache}
 use Rattle.diagram_ops.specs.Made.{Property, StopIs, IsMissing, IsPrefixOfSome}
-use Rattle.diagram_ops.proofs.Making.{stop_wider}
 use Rattle.gate_set.specs.declared.entry.Entry.{Entry}
 use Rattle.slice_vec.specs.Growing.{Grows}
-use Rattle.slice_vec.specs.Slices.{StandsIn, AreEven, value_at, SameValues}
+use Rattle.slice_vec.specs.Slices.{AreEven, SameValues}
 use Rattle.slice_vec.proofs.Bits.{stands_on}
 use Rattle.slice_vec.proofs.Growing.{grows_wider, some_later}
 use Rattle.diagram_model.proofs.Growing.{live_on}
@@ -29,10 +28,9 @@ use Rattle.slice_quad.specs.Crossings.{IsExchange}
 use Rattle.slice_quad.specs.Fours.{nodes_of, digits_in, mix_of, AreIntegers}
 use Rattle.slice_quad.specs.Mix.{Vector, Coordinates, vector_of, mixed}
 use Rattle.slice_quad.specs.Raws.{AreReduced, IsMix}
-use Rattle.slice_quad.specs.Settled.{HasBits, AreSame, IsHalfway, IsSettled, doubled}
+use Rattle.slice_quad.specs.Settled.{AreSame, IsSettled, doubled}
 use Rattle.slice_quad.specs.Stepping.{stepped, target_with, exchange_with, AreReducedRows, step_functions, work_functions, IsStep, IsWork}
 use Rattle.slice_quad.specs.Stops.{stop_of, OnWidth, QuadStopIs, IsNotFull}
-use Rattle.slice_quad.specs.Turns.{coordinate}
 use Rattle.slice_quad.specs.Vectors.{vector_in, AreValues, Stands}
 use Rattle.slice_quad.proofs.BitLemmas.{bits-of_vector}
 use Rattle.slice_quad.proofs.DiagonalCalls.{steady_in}

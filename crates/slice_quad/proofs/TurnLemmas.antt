@@ -1,5 +1,5 @@
 -- Turns, one power of ω after another.
-use Rattle.std.proofs.Common.{◌≡◌, ◌≢◌, ℕ, zero, suc, ◌-◌, Bool, false, refl, sym, ◌∙◌, ap, arith}
+use Rattle.std.proofs.Common.{◌≡◌, ◌≢◌, ℕ, suc, ◌-◌, false, sym, ◌∙◌, ap, arith}
 use Rattle.ring_omega.specs.declared.quad.Quad.{Quad}
 use Rattle.ring_omega.specs.Ring.{omega_unit, times_power}
 use Rattle.slice_quad.specs.declared.coord.Coord.{Coord}

@@ -1,18 +1,15 @@
 -- The nodes of a gate's variables.
-use Rattle.std.proofs.Common.{◌≡◌, ◌≢◌, ◌⊎◌, ℕ, ◌<◌, Bool, true, false, cond, not, List, [], ◌∷◌, length, Some, inl, inr, refl, sym, ◌∙◌, ap, arith}
+use Rattle.std.proofs.Common.{◌≡◌, ℕ, ◌<◌, Bool, true, false, cond, not, List, [], ◌∷◌, length, inl, inr, refl, sym, ◌∙◌, ap, arith}
 use Rattle.std.specs.Prelude.{◌&&◌}
-use Rattle.std.proofs.lemmas.Bool.{cases_Bool}
 use mathlib.Core.Path.{fun_ext}
 use Rattle.node_store.specs.declared.node.StoreStop.{StoreStop}
 use Rattle.node_store.specs.declared.node.StoreStop.TheVariants as store
 use Rattle.node_store.specs.Makes.{StopMeans}
-use Rattle.bit_lists.specs.Orders.{has}
-use Rattle.diagram_model.specs.declared.parts.Parts.{Parts}
 use Rattle.diagram_model.specs.Functions.{Assignment, Function, IsPrefixOf}
-use Rattle.diagram_model.specs.Nodes.{parts_of, value}
-use Rattle.diagram_model.specs.Stores.{Diagram, IsLive, IsSound, Extends, KeepsFunctions, AddsOnly, NoRoom, function_of, requested}
+use Rattle.diagram_model.specs.Nodes.{value}
+use Rattle.diagram_model.specs.Stores.{Diagram, IsSound, AddsOnly, function_of, requested}
 use Rattle.diagram_ops.specs.Connectives.{connective, connected}
-use Rattle.diagram_ops.specs.Diagrams.{StoreAndCache, IsConsistent, variable_of}
+use Rattle.diagram_ops.specs.Diagrams.{variable_of}
 use Rattle.diagram_ops.specs.Made.{Property, MakesOnly, StopIs}
 use Rattle.diagram_model.proofs.Requests.{function_requested}
 use Rattle.diagram_ops.proofs.Making.{no_node}

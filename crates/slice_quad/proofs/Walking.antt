@@ -6,7 +6,7 @@ use Rattle.std.proofs.lemmas.List.{get_or-set_same, get_or-set_other, length-set
 use Rattle.bit_lists.specs.Lists.{IsBefore}
 use Rattle.bit_lists.specs.Partials.{fits, agrees}
 use Rattle.bit_lists.proofs.Partials.{agrees_at, agrees_all}
-use Rattle.diagram_model.specs.Functions.{Assignment, Function, bit}
+use Rattle.diagram_model.specs.Functions.{Assignment, bit}
 use Rattle.diagram_model.specs.Nodes.{value}
 use Rattle.diagram_model.specs.Stores.{Diagram, function_of}
 use Rattle.diagram_ops.specs.Connectives.{number}
@@ -18,8 +18,7 @@ use Rattle.slice_vec.specs.Slices.{bit_node, digits_of, value_at}
 use Rattle.slice_vec.proofs.Ranges.{low_sum-less}
 use Rattle.slice_quad.specs.declared.four.Four.{Four}
 use Rattle.slice_quad.specs.declared.walk.Branch.{Branch}
-use Rattle.slice_quad.specs.Vectors.{vector_in}
-use Rattle.slice_quad.specs.Nonzero.{IsAfter, NoneAfter, IsNextNonzero}
+use Rattle.slice_quad.specs.Nonzero.{NoneAfter, IsNextNonzero}
 use Rattle.slice_quad.specs.Walks.{Entries, entries_in, IsNonzeroWithin, IsZeroWithin, Shares, IsNonzeroFrom, AreZeroFrom, IsBeforeAt, IsLeastFrom, AreZeroBeyond, IsBranch}
 
 -- values and bits

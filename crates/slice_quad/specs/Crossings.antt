@@ -1,16 +1,18 @@
 -- Two variables to be exchanged where controls hold, with their nodes, and what is made for them.
-use Rattle.std.specs.Prelude.{ℕ, ◌<◌, List, length}
+use Rattle.std.specs.Prelude.{ℕ, ◌<◌, true, false, List, length}
 use Rattle.diagram_model.specs.Stores.{Diagram}
 use Rattle.diagram_ops.specs.Diagrams.{variable_of}
 use Rattle.diagram_ops.specs.Made.{Property, IsPrefixOfSome}
+use Rattle.slice_vec.specs.Digits.{Digits}
 use Rattle.slice_vec.specs.Growing.{Denotes}
 use Rattle.slice_vec.specs.Slices.{digits_of}
-use Rattle.slice_quad.specs.declared.coord.Coord.{Coord}
 use Rattle.slice_quad.specs.declared.crossing.Crossing.{Crossing}
+use Rattle.slice_quad.specs.declared.crossing.Selected.{Selected}
 use Rattle.slice_quad.specs.declared.four.Four.{Four}
-use Rattle.slice_quad.specs.Exchange.{Exchange, exchange_digits, exchange_functions, crossing_functions, exchange_work}
-use Rattle.slice_quad.specs.Fours.{nodes_of, digits_in, true_places, AreIntegers}
-use Rattle.slice_quad.specs.Mix.{Coordinates, all_true}
+use Rattle.slice_quad.specs.Exchange.{Exchange, by_second, exchange_digits, exchange_functions, crossing_functions, exchange_work}
+use Rattle.slice_quad.specs.Fourfold.{Functions, Gives}
+use Rattle.slice_quad.specs.Fours.{digits_in, true_places, AreIntegers}
+use Rattle.slice_quad.specs.Mix.{all_true}
 use Rattle.slice_quad.specs.Terms.{IsOf}
 
 -- the exchange without its nodes
@@ -42,6 +44,15 @@ pub record IsCrossable (d : Diagram) (c : Crossing) (q : Four) : Type 0 where
   pub first : c.first < length d.order
   pub second : c.second < length d.order
 
--- the four coordinates are the exchanged ones, of w bits
-abbrev pub AreCrossedIn : Diagram → ℕ → Exchange → Coordinates → Four → Type 0
-AreCrossedIn d w e q f = (z : Coord) → IsOf d w (exchange_digits e (q z)) (nodes_of f z)
+-- the selections by the second variable, of the bits a
+pub record AreSelected (d : Diagram) (w : ℕ) (e : Exchange) (a : Digits) (r : Selected) : Type 0 where
+  pub clear : IsOf d w (by_second e a false) r.clear
+  pub set : IsOf d w (by_second e a true) r.set
+
+-- the functions for which an exchange makes nodes
+abbrev pub exchange_made : Exchange → Four → Functions
+exchange_made e q d = exchange_work (length q.a) e (digits_in d q)
+
+-- a coordinate is the exchanged one
+abbrev pub GivesCrossed : Exchange → Four → Gives
+GivesCrossed e q u z w ns = IsOf w (length q.a) (exchange_digits e (digits_in u q z)) ns

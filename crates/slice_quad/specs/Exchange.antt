@@ -1,5 +1,5 @@
 -- Two variables exchanged where controls hold: on vectors, and on the bits of a coordinate.
-use Rattle.std.specs.Prelude.{◌≡◌, ℕ, zero, suc, ◌+◌, Bool, true, false, cond, not, List, [], ◌∷◌, ◌++◌, map, flat_map}
+use Rattle.std.specs.Prelude.{ℕ, Bool, true, false, cond, List, [], ◌∷◌, ◌++◌, map, flat_map}
 use Rattle.diagram_model.specs.Functions.{Function, put}
 use Rattle.slice_vec.specs.Digits.{Digits, chosen, fixed}
 use Rattle.slice_vec.specs.Slices.{first_bits}

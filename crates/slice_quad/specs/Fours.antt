@@ -1,7 +1,6 @@
 -- Four integers, one a coordinate.
 use Rattle.std.specs.Prelude.{◌≡◌, ℕ, ◌+◌, Bool, cond, not, List, [], ◌∷◌, length}
 use Rattle.diagram_model.specs.Stores.{Diagram}
-use Rattle.gate_set.specs.declared.entry.Entry.{Entry}
 use Rattle.slice_vec.specs.Growing.{Denotes}
 use Rattle.slice_vec.specs.Slices.{StandsIn, digits_of}
 use Rattle.slice_quad.specs.declared.coord.Coord.{Coord}

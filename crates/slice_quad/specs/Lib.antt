@@ -3,6 +3,7 @@ pub mod Column
 pub mod Crossings
 pub mod Exchange
 pub mod Fields
+pub mod Fourfold
 pub mod Fours
 pub mod Identities
 pub mod IdentityBuilt

@@ -1,5 +1,5 @@
 -- What a refused step says.
-use Rattle.std.specs.Prelude.{◌≡◌, ℕ}
+use Rattle.std.specs.Prelude.{◌≡◌}
 use Rattle.diagram_model.specs.Stores.{Diagram}
 use Rattle.diagram_ops.specs.Made.{Property, IsMissing}
 use Rattle.node_store.specs.declared.node.StoreStop.{StoreStop}

@@ -1,5 +1,5 @@
 -- Entries by lists of bits, and which of them are zero.
-use Rattle.std.specs.Prelude.{◌≡◌, ◌≢◌, ℕ, ◌+◌, ◌<◌, ◌≤◌, ℤ, pos, Bool, true, false, List, length, Option, slice_index_or, slice_set}
+use Rattle.std.specs.Prelude.{◌≡◌, ◌≢◌, ℕ, ◌+◌, ◌<◌, ◌≤◌, pos, Bool, true, false, List, length, Option, slice_set}
 use Rattle.bit_lists.specs.Partials.{agrees}
 use Rattle.diagram_model.specs.Functions.{bit}
 use Rattle.diagram_model.specs.Stores.{Diagram}

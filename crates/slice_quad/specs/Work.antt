@@ -1,7 +1,7 @@
 -- The functions that the nodes of a step with one target come from.
 use Rattle.std.specs.Prelude.{ℕ, ◌+◌, Bool, true, false, not, List, [], ◌∷◌, ◌++◌, map, flat_map}
 use Rattle.diagram_model.specs.Functions.{Function}
-use Rattle.slice_vec.specs.Digits.{Digits, fixed, flipped, one_carry, carry}
+use Rattle.slice_vec.specs.Digits.{fixed, flipped, one_carry, carry}
 use Rattle.slice_vec.specs.Slices.{first_bits}
 use Rattle.slice_quad.specs.declared.coord.Coord.{Coord}
 use Rattle.slice_quad.specs.declared.coord.Coord.TheVariants.{A, B, C, D}

@@ -4,9 +4,9 @@ ghost use Rattle.diagram_ops.specs.Diagrams.{IsConsistent};
 ghost use Rattle.diagram_ops.specs.Made.{StopIs};
 ghost use Rattle.slice_vec.specs.Growing.{Grows};
 ghost use Rattle.slice_vec.specs.Slices.{StandsIn, digits_of};
-ghost use Rattle.slice_quad.specs.Crossings.{exchange_of, AreCrossed, AreCrossedIn, InExchange, IsCrossable, IsCrossing, IsExchange};
+ghost use Rattle.slice_quad.specs.Crossings.{exchange_of, exchange_made, AreCrossed, AreSelected, GivesCrossed, InExchange, IsCrossable, IsCrossing, IsExchange};
 ghost use Rattle.slice_quad.specs.Exchange.{exchange_digits, exchanged};
-ghost use Rattle.slice_quad.specs.Fours.{digits_in, AreIntegers};
+ghost use Rattle.slice_quad.specs.Fours.{AreIntegers};
 ghost use Rattle.slice_quad.specs.Stepping.{exchange_with};
 ghost use Rattle.slice_quad.specs.Terms.{IsOf};
 ghost use Rattle.slice_quad.specs.Vectors.{vector_in, AreValues};
@@ -14,6 +14,7 @@ ghost use Rattle.slice_quad.specs.Vectors.{vector_in, AreValues};
 use crate::controls::controls_node;
 use crate::coord::Coord;
 use crate::four::Four;
+use crate::fourfold::{Makes, each};
 use crate::nodes::variable_node;
 use bit_lists::Bits;
 use diagram_ops::Diagrams;
@@ -63,21 +64,26 @@ fn crossing_of<L: Ledger>(
     })
 }
 
-/// The integer with the two variables exchanged where the controls hold.
-///
-/// Two cofactors and four choices a bit, of which the last one costs nothing where there is no control.
-fn crossed<L: Ledger>(
+/// The selections by the second variable, for each value of it.
+#[derive(Drop)]
+pub struct Selected {
+    pub clear: Slices,
+    pub set: Slices,
+}
+
+/// Two cofactors and two choices a bit.
+fn by_second<L: Ledger>(
     d: &mut Diagrams,
     crossing: &Crossing,
     x: &Slices,
     steps: &mut Steps<L>,
-) -> Result<Slices, StoreStop>
+) -> Result<Selected, StoreStop>
     requires sound { IsConsistent d.old }
     requires nodes { AreCrossed d.old.store crossing.now }
     requires x { StandsIn d.old.store x.now }
     requires first { crossing.now.first < length d.old.store.order }
     requires second { crossing.now.second < length d.old.store.order }
-    ensures exchanged { IfOk result (IsOf d.new.store (length x.now) (exchange_digits (exchange_of crossing.now) (digits_of d.old.store x.now))) }
+    ensures selected { IfOk result (AreSelected d.new.store (length x.now) (exchange_of crossing.now) (digits_of d.old.store x.now)) }
     ensures grows { Grows d.old (InExchange d.old.store (exchange_of crossing.now) x.now) d.new }
     ensures stop { IfErr result (StopIs d.new.store (InExchange d.old.store (exchange_of crossing.now) x.now)) }
 {
@@ -101,47 +107,56 @@ fn crossed<L: Ledger>(
         true,
         steps,
     )?;
-    let swapped = select(d, crossing.is_first, &set, &clear, steps)?;
+    Ok(Selected { clear, set })
+}
+
+/// The integer with the two variables exchanged where the controls hold.
+///
+/// Two cofactors and four choices a bit, of which the last one costs nothing where there is no control.
+fn crossed<L: Ledger>(
+    d: &mut Diagrams,
+    crossing: &Crossing,
+    x: &Slices,
+    steps: &mut Steps<L>,
+) -> Result<Slices, StoreStop>
+    requires sound { IsConsistent d.old }
+    requires nodes { AreCrossed d.old.store crossing.now }
+    requires x { StandsIn d.old.store x.now }
+    requires first { crossing.now.first < length d.old.store.order }
+    requires second { crossing.now.second < length d.old.store.order }
+    ensures exchanged { IfOk result (IsOf d.new.store (length x.now) (exchange_digits (exchange_of crossing.now) (digits_of d.old.store x.now))) }
+    ensures grows { Grows d.old (InExchange d.old.store (exchange_of crossing.now) x.now) d.new }
+    ensures stop { IfErr result (StopIs d.new.store (InExchange d.old.store (exchange_of crossing.now) x.now)) }
+{
+    let choices = by_second(d, crossing, x, steps)?;
+    let swapped = select(d, crossing.is_first, &choices.set, &choices.clear, steps)?;
     let bits = select(d, crossing.all, &swapped, x, steps)?;
     Ok(bits)
 }
 
-/// Coordinate `z` with the two variables exchanged where the controls hold.
-fn crossed_at<L: Ledger>(
-    d: &mut Diagrams,
-    crossing: &Crossing,
-    q: &Four,
-    z: Coord,
-    steps: &mut Steps<L>,
-) -> Result<Slices, StoreStop>
-    requires sound { IsConsistent d.old }
-    requires ready { IsCrossable d.old.store crossing.now q.now }
-    ensures exchanged { IfOk result (IsOf d.new.store (length q.now.a) (exchange_digits (exchange_of crossing.now) (digits_in d.old.store q.now z))) }
-    ensures grows { Grows d.old (IsExchange d.old.store (exchange_of crossing.now) q.now) d.new }
-    ensures stop { IfErr result (StopIs d.new.store (IsExchange d.old.store (exchange_of crossing.now) q.now)) }
-{
-    let bits = crossed(d, crossing, q.get(z), steps)?;
-    Ok(bits)
+/// The exchange of the coordinates of a vector.
+#[derive(Clone, Copy)]
+struct Exchanging<'a> {
+    crossing: &'a Crossing,
+    q: &'a Four,
 }
 
-/// The four coordinates with the two variables exchanged where the controls hold.
-fn crossings<L: Ledger>(
-    d: &mut Diagrams,
-    crossing: &Crossing,
-    q: &Four,
-    steps: &mut Steps<L>,
-) -> Result<Four, StoreStop>
-    requires sound { IsConsistent d.old }
-    requires ready { IsCrossable d.old.store crossing.now q.now }
-    ensures exchanged { IfOk result (AreCrossedIn d.new.store (length q.now.a) (exchange_of crossing.now) (digits_in d.old.store q.now)) }
-    ensures grows { Grows d.old (IsExchange d.old.store (exchange_of crossing.now) q.now) d.new }
-    ensures stop { IfErr result (StopIs d.new.store (IsExchange d.old.store (exchange_of crossing.now) q.now)) }
-{
-    let a = crossed_at(d, crossing, q, Coord::A, steps)?;
-    let b = crossed_at(d, crossing, q, Coord::B, steps)?;
-    let c = crossed_at(d, crossing, q, Coord::C, steps)?;
-    let e = crossed_at(d, crossing, q, Coord::D, steps)?;
-    Ok(Four { a, b, c, d: e })
+impl<'a> Makes for Exchanging<'a> {
+    ghost takes = { λ s d. IsCrossable d s.crossing.now s.q.now };
+
+    ghost functions = { λ s. exchange_made (exchange_of s.crossing.now) s.q.now };
+
+    ghost gives = { λ s. GivesCrossed (exchange_of s.crossing.now) s.q.now };
+
+    fn make<L: Ledger>(
+        &self,
+        d: &mut Diagrams,
+        z: Coord,
+        steps: &mut Steps<L>,
+    ) -> Result<Slices, StoreStop> {
+        let bits = crossed(d, self.crossing, self.q.get(z), steps)?;
+        Ok(bits)
+    }
 }
 
 /// The vector with the two variables exchanged where the controls hold.
@@ -163,6 +178,13 @@ pub fn exchange_raw<L: Ledger>(
     ensures stop { IfErr result (StopIs d.new.store (IsExchange d.old.store (exchange_with controls.now first second) q.now)) }
 {
     let crossing = crossing_of(d, controls, first, second, steps)?;
-    let raw = crossings(d, &crossing, q, steps)?;
+    let raw = each(
+        d,
+        &Exchanging {
+            crossing: &crossing,
+            q,
+        },
+        steps,
+    )?;
     Ok(raw)
 }

@@ -12,6 +12,7 @@ mod diagonal;
 mod fields;
 mod flip;
 mod four;
+mod fourfold;
 mod gate;
 mod kind;
 mod nodes;

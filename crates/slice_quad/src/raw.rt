@@ -1,24 +1,26 @@
 //! The bits of raw, coordinate by coordinate.
-ghost use Rattle.std.specs.Prelude.{◌≡◌, ◌<◌, ◌≤◌, IfOk, IfErr, length};
+ghost use Rattle.std.specs.Prelude.{◌≡◌, ◌<◌, ◌≤◌, IfOk, IfErr, cond, length};
 ghost use Rattle.diagram_ops.specs.Diagrams.{IsConsistent};
 ghost use Rattle.diagram_ops.specs.Made.{StopIs};
 ghost use Rattle.slice_vec.specs.Growing.{Grows};
 ghost use Rattle.slice_quad.specs.Mix.{mixed, raw, old_negates};
-ghost use Rattle.slice_quad.specs.Fours.{mix_of, digits_in, AreIntegers, AreItsNodes};
-ghost use Rattle.slice_quad.specs.Raws.{AreReduced, IsReady, IsHalf, IsMix, IsRaw, AreRaw};
-ghost use Rattle.slice_quad.specs.Terms.{nodes_old};
+ghost use Rattle.slice_quad.specs.Fours.{mix_of, digits_in, AreIntegers};
+ghost use Rattle.slice_quad.specs.Raws.{mix_made, AreRaw, AreReduced, AreZeros, GivesFixed, GivesRaw, GivesTerm, GivesUnsigned, IsFixable, IsHalf, IsMix, IsMixable, IsReady};
+ghost use Rattle.slice_quad.specs.Terms.{column_of, nodes_old};
+ghost use Rattle.slice_quad.specs.Turning.{IsTurning};
 ghost use Rattle.slice_quad.specs.Vectors.{vector_in, AreValues};
 
 use crate::controls::gate_of;
 use crate::coord::{Coord, root_turn_of};
-use crate::diagonal::diagonals;
-use crate::flip::flips;
+use crate::diagonal::Diagonal;
+use crate::flip::Flips;
 use crate::four::Four;
-use crate::gate::{Gate, Target, negating};
-use crate::term::{Column, signed_term};
+use crate::fourfold::{Makes, each};
+use crate::gate::{Gate, Target, negating, signing};
+use crate::term::{Column, brought, negates};
 use diagram_ops::Diagrams;
 use node_store::StoreStop;
-use slice_vec::{Slices, add, fix, zero};
+use slice_vec::{Slices, add, fix, negate_where, select, zero};
 use std::sync::ledger::Ledger;
 use steps::Steps;
 
@@ -27,6 +29,18 @@ use steps::Steps;
 pub struct Halves {
     pub low: Four,
     pub high: Four,
+}
+
+impl Halves {
+    /// Those with the target set, or clear.
+    fn get(&self, set: bool) -> &Four
+        ensures { result.now ≡ cond set self.now.high self.now.low }
+    {
+        if set {
+            return &self.high;
+        }
+        &self.low
+    }
 }
 
 /// The first or the second term where the controls don't hold.
@@ -49,39 +63,135 @@ fn is_old_negated(rooted: bool, z: Coord, second: bool) -> bool
     rooted && root_turn_of(z, second).negated
 }
 
-/// Coordinate `z` of the gate's matrix times the vector: the sum of its two terms.
-fn coordinate<L: Ledger>(
-    d: &mut Diagrams,
-    gate: &Gate,
-    q: &Four,
-    halves: &Halves,
-    zero: &Slices,
-    z: Coord,
-    steps: &mut Steps<L>,
-) -> Result<Slices, StoreStop>
-    requires sound { IsConsistent d.old }
-    requires ready { IsReady d.old.store gate.now q.now halves.now zero.now }
-    ensures raw { IfOk result (IsRaw d.new.store (length q.now.a) (raw (mix_of gate.now.target) (digits_in d.old.store q.now) z)) }
-    ensures grows { Grows d.old (IsMix d.old.store gate.now.target q.now) d.new }
-    ensures stop { IfErr result (StopIs d.new.store (IsMix d.old.store gate.now.target q.now)) }
+/// The first or the second column of the gate's matrix, for coordinate `z`.
+fn column_at(target: &Target, z: Coord, second: bool) -> Column
+    ensures { result ≡ column_of target.now z second }
 {
-    let entries = gate.target;
-    let first = Column {
-        low: entries.low_low,
-        high: entries.high_low,
-        out: is_old_negated(entries.rooted, z, false),
-    };
-    let second = Column {
-        low: entries.low_high,
-        high: entries.high_high,
-        out: is_old_negated(entries.rooted, z, true),
-    };
-    let old = old_of(entries.rooted, q, zero, z, false);
-    let rest = old_of(entries.rooted, q, zero, z, true);
-    let low = signed_term(d, gate, first, &halves.low, old, zero, z, steps)?;
-    let high = signed_term(d, gate, second, &halves.high, rest, zero, z, steps)?;
-    let sum = add(d, &low, &high, steps)?;
-    Ok(sum)
+    let out = is_old_negated(target.rooted, z, second);
+    if second {
+        return Column {
+            low: target.low_high,
+            high: target.high_high,
+            out,
+        };
+    }
+    Column {
+        low: target.low_low,
+        high: target.high_low,
+        out,
+    }
+}
+
+/// A gate on a vector, from its coordinates with the target fixed each way.
+#[derive(Clone, Copy)]
+struct Mixing<'a> {
+    gate: &'a Gate,
+    q: &'a Four,
+    halves: &'a Halves,
+    zero: &'a Slices,
+}
+
+impl<'a> Mixing<'a> {
+    /// The first or the second term of coordinate `z`, without its sign.
+    fn unsigned<L: Ledger>(
+        &self,
+        d: &mut Diagrams,
+        z: Coord,
+        second: bool,
+        steps: &mut Steps<L>,
+    ) -> Result<Slices, StoreStop>
+        requires sound { IsConsistent d.old }
+        requires ready { IsReady d.old.store self.now.gate.now self.now.q.now self.now.halves.now self.now.zero.now }
+        ensures term { IfOk result (GivesUnsigned self.now.gate.now.target self.now.q.now second d.old.store z d.new.store) }
+        ensures grows { Grows d.old (IsMix d.old.store self.now.gate.now.target self.now.q.now) d.new }
+        ensures stop { IfErr result (StopIs d.new.store (IsMix d.old.store self.now.gate.now.target self.now.q.now)) }
+    {
+        let gate = self.gate;
+        let column = column_at(&gate.target, z, second);
+        let from = self.halves.get(second);
+        let low = brought(column.low, z, from, self.zero);
+        let high = brought(column.high, z, from, self.zero);
+        let old = old_of(gate.target.rooted, self.q, self.zero, z, second);
+        let by_target = select(d, gate.is_set, high, low, steps)?;
+        let by_controls = select(d, gate.all, &by_target, old, steps)?;
+        Ok(by_controls)
+    }
+
+    /// The first or the second term of coordinate `z`, with its sign.
+    fn part<L: Ledger>(
+        &self,
+        d: &mut Diagrams,
+        z: Coord,
+        second: bool,
+        steps: &mut Steps<L>,
+    ) -> Result<Slices, StoreStop>
+        requires sound { IsConsistent d.old }
+        requires ready { IsReady d.old.store self.now.gate.now self.now.q.now self.now.halves.now self.now.zero.now }
+        ensures term { IfOk result (GivesTerm self.now.gate.now.target self.now.q.now second d.old.store z d.new.store) }
+        ensures grows { Grows d.old (IsMix d.old.store self.now.gate.now.target self.now.q.now) d.new }
+        ensures stop { IfErr result (StopIs d.new.store (IsMix d.old.store self.now.gate.now.target self.now.q.now)) }
+    {
+        let gate = self.gate;
+        let column = column_at(&gate.target, z, second);
+        let sign = signing(
+            d,
+            gate,
+            negates(column.low, z),
+            negates(column.high, z),
+            column.out,
+            steps,
+        )?;
+        let term = self.unsigned(d, z, second, steps)?;
+        let signed = negate_where(d, &term, sign, steps)?;
+        Ok(signed)
+    }
+}
+
+impl<'a> Makes for Mixing<'a> {
+    ghost takes = { λ s d. IsReady d s.gate.now s.q.now s.halves.now s.zero.now };
+
+    ghost functions = { λ s. mix_made s.gate.now.target s.q.now };
+
+    ghost gives = { λ s. GivesRaw s.gate.now.target s.q.now };
+
+    /// The sum of its two terms.
+    fn make<L: Ledger>(
+        &self,
+        d: &mut Diagrams,
+        z: Coord,
+        steps: &mut Steps<L>,
+    ) -> Result<Slices, StoreStop> {
+        let low = self.part(d, z, false, steps)?;
+        let high = self.part(d, z, true, steps)?;
+        let sum = add(d, &low, &high, steps)?;
+        Ok(sum)
+    }
+}
+
+/// A vector with the target fixed.
+#[derive(Clone, Copy)]
+struct Fixing<'a> {
+    q: &'a Four,
+    target: &'a Target,
+    bit: bool,
+}
+
+impl<'a> Makes for Fixing<'a> {
+    ghost takes = { λ s d. IsFixable d s.target.now s.q.now };
+
+    ghost functions = { λ s. mix_made s.target.now s.q.now };
+
+    ghost gives = { λ s. GivesFixed s.target.now.target s.bit s.q.now };
+
+    fn make<L: Ledger>(
+        &self,
+        d: &mut Diagrams,
+        z: Coord,
+        steps: &mut Steps<L>,
+    ) -> Result<Slices, StoreStop> {
+        let bits = fix(d, self.q.get(z), self.target.target, self.bit, steps)?;
+        Ok(bits)
+    }
 }
 
 /// The four coordinates with the target clear, or with it set.
@@ -99,33 +209,72 @@ fn half<L: Ledger>(
     ensures grows { Grows d.old (IsMix d.old.store target.now q.now) d.new }
     ensures stop { IfErr result (StopIs d.new.store (IsMix d.old.store target.now q.now)) }
 {
-    let a = fix(d, &q.a, target.target, bit, steps)?;
-    let b = fix(d, &q.b, target.target, bit, steps)?;
-    let c = fix(d, &q.c, target.target, bit, steps)?;
-    let e = fix(d, &q.d, target.target, bit, steps)?;
-    Ok(Four { a, b, c, d: e })
+    let four = each(d, &Fixing { q, target, bit }, steps)?;
+    Ok(four)
 }
 
-/// The gate's matrix times the vector, coordinate by coordinate.
-fn coordinates<L: Ledger>(
+/// The gate's matrix times the vector, where it is 1 and the j-th power of ω on the diagonal.
+fn turned<L: Ledger>(
     d: &mut Diagrams,
     gate: &Gate,
+    j: u8,
     q: &Four,
-    halves: &Halves,
     zero: &Slices,
     steps: &mut Steps<L>,
 ) -> Result<Four, StoreStop>
     requires sound { IsConsistent d.old }
-    requires ready { IsReady d.old.store gate.now q.now halves.now zero.now }
+    requires mixable { IsMixable d.old.store gate.now q.now }
+    requires turning { IsTurning gate.now.target j }
+    requires zero { AreZeros q.now zero.now }
     ensures raw { IfOk result (AreRaw d.new.store (length q.now.a) (raw (mix_of gate.now.target) (digits_in d.old.store q.now))) }
     ensures grows { Grows d.old (IsMix d.old.store gate.now.target q.now) d.new }
     ensures stop { IfErr result (StopIs d.new.store (IsMix d.old.store gate.now.target q.now)) }
 {
-    let a = coordinate(d, gate, q, halves, zero, Coord::A, steps)?;
-    let b = coordinate(d, gate, q, halves, zero, Coord::B, steps)?;
-    let c = coordinate(d, gate, q, halves, zero, Coord::C, steps)?;
-    let e = coordinate(d, gate, q, halves, zero, Coord::D, steps)?;
-    Ok(Four { a, b, c, d: e })
+    let here = negating(d, gate, false, true, steps)?;
+    let target = &gate.target;
+    let raw = each(
+        d,
+        &Diagonal {
+            target,
+            j,
+            here,
+            q,
+            zero,
+        },
+        steps,
+    )?;
+    Ok(raw)
+}
+
+/// The gate's matrix times the vector, whatever the matrix.
+fn mix<L: Ledger>(
+    d: &mut Diagrams,
+    gate: &Gate,
+    q: &Four,
+    zero: &Slices,
+    steps: &mut Steps<L>,
+) -> Result<Four, StoreStop>
+    requires sound { IsConsistent d.old }
+    requires mixable { IsMixable d.old.store gate.now q.now }
+    requires zero { AreZeros q.now zero.now }
+    ensures raw { IfOk result (AreRaw d.new.store (length q.now.a) (raw (mix_of gate.now.target) (digits_in d.old.store q.now))) }
+    ensures grows { Grows d.old (IsMix d.old.store gate.now.target q.now) d.new }
+    ensures stop { IfErr result (StopIs d.new.store (IsMix d.old.store gate.now.target q.now)) }
+{
+    let low = half(d, q, &gate.target, false, steps)?;
+    let high = half(d, q, &gate.target, true, steps)?;
+    let halves = &Halves { low, high };
+    let raw = each(
+        d,
+        &Mixing {
+            gate,
+            q,
+            halves,
+            zero,
+        },
+        steps,
+    )?;
+    Ok(raw)
 }
 
 /// The gate's matrix times the vector.
@@ -140,30 +289,19 @@ fn raw_of<L: Ledger>(
     steps: &mut Steps<L>,
 ) -> Result<Four, StoreStop>
     requires sound { IsConsistent d.old }
-    requires nodes { AreItsNodes d.old.store gate.now }
-    requires reduced { AreReduced gate.now.target }
-    requires whole { AreIntegers d.old.store (length q.now.a) q.now }
-    requires some { 1 ≤ length q.now.a }
-    requires few { length q.now.a ≤ 128 }
-    requires within { gate.now.target.target < length d.old.store.order }
+    requires mixable { IsMixable d.old.store gate.now q.now }
     ensures raw { IfOk result (AreRaw d.new.store (length q.now.a) (raw (mix_of gate.now.target) (digits_in d.old.store q.now))) }
     ensures grows { Grows d.old (IsMix d.old.store gate.now.target q.now) d.new }
     ensures stop { IfErr result (StopIs d.new.store (IsMix d.old.store gate.now.target q.now)) }
 {
     if gate.target.is_flip() {
-        let flipped = flips(d, gate, q, steps)?;
-        return Ok(flipped);
+        return each(d, &Flips { gate, q }, steps);
     }
     let zeros = zero(*q.a.bits.allocator(), q.a.width() as u8)?;
     if let Some(j) = gate.target.turning() {
-        let here = negating(d, gate, false, true, steps)?;
-        let turned = diagonals(d, &gate.target, j, here, q, &zeros, steps)?;
-        return Ok(turned);
+        return turned(d, gate, j, q, &zeros, steps);
     }
-    let low = half(d, q, &gate.target, false, steps)?;
-    let high = half(d, q, &gate.target, true, steps)?;
-    let raw = coordinates(d, gate, q, &Halves { low, high }, &zeros, steps)?;
-    Ok(raw)
+    mix(d, gate, q, &zeros, steps)
 }
 
 /// The gate's matrix times the vector, from the gate's own nodes on.

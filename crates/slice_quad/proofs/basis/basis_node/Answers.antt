@@ -1,11 +1,10 @@
-use Rattle.std.proofs.Common.{rules, ◌≡◌, ◌<◌, ◌≤◌, cond, length, ℕ, ◌+◌, ◌-◌, Bool, true, false, List, get_or, refl, sym, ◌∙◌, ap, subst, arith}
+use Rattle.std.proofs.Common.{rules, ◌≡◌, length, ℕ, ◌-◌, true, List, sym, ap, subst, arith}
 use Rattle.bit_lists.specs.Orders.{has}
-use Rattle.diagram_model.specs.Functions.{bit}
-use Rattle.diagram_model.specs.Stores.{Diagram, Extends, IsSound, requested}
+use Rattle.diagram_model.specs.Stores.{Diagram, Extends, requested}
 use Rattle.diagram_model.proofs.Growing.{extends_trans}
 use Rattle.diagram_model.proofs.Values.{below-order}
 use Rattle.diagram_ops.proofs.Results.{same_store}
-use Rattle.slice_quad.specs.Started.{IsBuilt, StartStopIs}
+use Rattle.slice_quad.specs.Started.{StartStopIs}
 use Rattle.slice_quad.proofs.Starting.{IsPlace, place_of_loop, built_none, built_as, built_next, built_full, built_room, var_has, low_child, high_child}
 use Rattle.slice_quad.proofs.basis.basis_node.Goals as goal
 

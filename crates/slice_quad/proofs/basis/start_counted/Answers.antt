@@ -1,6 +1,6 @@
-use Rattle.std.proofs.Common.{rules, ◌≡◌, length, ap, sym, ◌∙◌, subst, refl}
+use Rattle.std.proofs.Common.{◌≡◌, ◌∙◌, subst, refl}
 use Rattle.diagram_model.specs.Stores.{Diagram}
-use Rattle.slice_quad.specs.Started.{IsBuilt, IsStart}
+use Rattle.slice_quad.specs.Started.{IsBuilt}
 use Rattle.slice_quad.proofs.Starts.{start_of}
 use Rattle.slice_quad.proofs.basis.start_counted.Goals as goal
 

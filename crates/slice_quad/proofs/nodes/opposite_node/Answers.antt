@@ -1,7 +1,7 @@
 use Rattle.diagram_ops.specs.Diagrams.{connective_of, key_of}
 use Rattle.slice_vec.proofs.Places.{call_grows, call_node, call_stop}
-use Rattle.slice_quad.specs.Variables.{opposite_at, both_at}
-use Rattle.slice_quad.proofs.Variables.{connected-opposite, connected-both}
+use Rattle.slice_quad.specs.Variables.{opposite_at}
+use Rattle.slice_quad.proofs.Variables.{connected-opposite}
 use Rattle.slice_quad.proofs.nodes.opposite_node.Goals as goal
 
 pub returns-clause-grows : goal.returns-clause-grows

@@ -1,6 +1,6 @@
-use Rattle.std.proofs.Common.{rules, ◌≡◌, ap}
+use Rattle.std.proofs.Common.{rules}
 use Rattle.diagram_model.specs.Functions.{IsPrefixOf}
-use Rattle.diagram_ops.specs.Diagrams.{StoreAndCache, variable_of}
+use Rattle.diagram_ops.specs.Diagrams.{variable_of}
 use Rattle.diagram_ops.specs.Made.{StopIs}
 use Rattle.slice_vec.proofs.Places.{keeping_grows}
 use Rattle.slice_quad.proofs.Variables.{variable_made, none_made, variable_stop}

@@ -1,8 +1,6 @@
-use Rattle.std.proofs.Common.{rules, ◌≡◌, ◌≤◌, length, ℕ, ◌∙◌, ap, sym, arith, FitsSigned, to_z, of_z}
+use Rattle.std.proofs.Common.{rules, ◌∙◌, FitsSigned, to_z, of_z}
 use Rattle.std.specs.Int.{w128}
 use Rattle.std.proofs.lemmas.Int.{to_z-of_z}
-use Rattle.diagram_model.specs.Functions.{bit}
-use Rattle.slice_vec.specs.Slices.{StandsIn, value_at}
 use Rattle.slice_quad.specs.declared.coord.Coord.TheVariants.{A, B, C, D}
 use Rattle.slice_quad.proofs.Walking.{entry_as}
 use Rattle.slice_quad.proofs.reading.entry.Goals as goal

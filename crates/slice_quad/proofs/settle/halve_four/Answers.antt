@@ -1,4 +1,4 @@
-use Rattle.std.proofs.Common.{◌<◌, length, arith}
+use Rattle.std.proofs.Common.{arith}
 use Rattle.slice_quad.specs.declared.coord.Coord.TheVariants.{A, B, C, D}
 use Rattle.slice_quad.proofs.Settling.{doubles_of}
 use Rattle.slice_quad.proofs.settle.halve_four.Goals as goal

@@ -1,10 +1,7 @@
-use Rattle.std.proofs.Common.{rules, ◌≡◌, ◌+◌, ◌-◌, ◌*◌, ℕ, List, length, refl, sym, ◌∙◌, ap, subst, arith}
-use Rattle.std.specs.List.{range_with_len}
+use Rattle.std.proofs.Common.{rules, ◌≡◌, ◌+◌, ◌-◌, ◌*◌, ℕ, List, length, ◌∙◌, ap, arith}
 use Rattle.std.proofs.lemmas.List.FromFn.{length-range_with_len}
-use Rattle.diagram_model.specs.Stores.{Diagram, Extends}
 use Rattle.diagram_model.proofs.Growing.{extends_trans}
 use Rattle.diagram_ops.proofs.Results.{same_store}
-use Rattle.slice_quad.specs.IdentityBuilt.{IsDiagonalFrom}
 use Rattle.slice_quad.specs.Started.{StartStopIs}
 use Rattle.slice_quad.proofs.IdentityNodes.{diagonal_none, diagonal_as, diagonal_room, stop_as}
 use Rattle.slice_quad.proofs.unit_matrix.diagonal_node.Goals as goal

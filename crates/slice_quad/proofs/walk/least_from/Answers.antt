@@ -1,7 +1,7 @@
-use Rattle.std.proofs.Common.{◌≡◌, ℕ, ◌+◌, ◌<◌, ◌≤◌, true, false, Bool, List, length, ap, sym, ◌∙◌, arith, subst}
+use Rattle.std.proofs.Common.{◌≡◌, ℕ, ◌+◌, ◌<◌, ◌≤◌, false, length, ap, ◌∙◌, arith, subst}
 use Rattle.std.proofs.lemmas.List.{length-set}
 use Rattle.slice_quad.specs.Walks.{entries_in, IsNonzeroFrom, AreZeroFrom}
-use Rattle.slice_quad.proofs.Walking.{IsSoFar, so_far_low, so_far_high, so_far_as, least_done}
+use Rattle.slice_quad.proofs.Walking.{so_far_low, so_far_high, so_far_as, least_done}
 use Rattle.slice_quad.proofs.walk.least_from.Goals as goal
 use Rattle.slice_quad.proofs.walk.least_from.Goals.{then-not-branch, else-not-branch}
 

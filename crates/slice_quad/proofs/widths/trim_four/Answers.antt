@@ -1,4 +1,3 @@
-use Rattle.std.proofs.Common.{◌<◌, length}
 use Rattle.slice_vec.specs.Slices.{IsSame, IsFewest}
 use Rattle.slice_quad.specs.declared.coord.Coord.TheVariants.{A, B, C, D}
 use Rattle.slice_quad.specs.declared.four.Four.{Four}
