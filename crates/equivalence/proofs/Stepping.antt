@@ -12,7 +12,7 @@ use Rattle.phases.proofs.Ends.{through_more, through_stops}
 use Rattle.amp_dense.specs.declared.stop.Stop.{Stop}
 use Rattle.amp_dense.specs.declared.stop.Stop.TheVariants.{Width, Nodes, OutOfMemory}
 use Rattle.amp_dense.specs.Rules.{Settings}
-use Rattle.amp_dense.specs.Standing.{MayStop}
+use Rattle.amp_dense.specs.Chains.{MayStop}
 use Rattle.amp_printer.specs.declared.verdict.Verdict.{Verdict}
 use Rattle.comparison.specs.Scalars.{comparison, compared}
 use Rattle.comparison.specs.Products.{Step, work_matrix}
@@ -66,7 +66,7 @@ module _ (n : ℕ) (rules : Settings) (steps : List Step) (t : ℕ) (s : Step) (
   stops_after OutOfMemory a = tt
 
 -- fewer steps are done than may be
-pub few_steps : (n : ℕ) (rules : Settings) (steps : List Step) (t most : ℕ) (m : Standing) → Multiplies rules n (take t steps) (Ok m) → t < length steps → length steps ≤ most → length m.steps < most
+pub few_steps : (n : ℕ) (rules : Settings) (steps : List Step) (t most : ℕ) (m : Standing) → Multiplies rules n (take t steps) (Ok m) → t < length steps → length steps ≤ most → length m.gates < most
 few_steps n rules steps t most m now lt le =
     let long = ap length (multiplied rules n (take t steps) m now).accepted ∙ length-take-le t steps (omega (arith, lt)) in omega (arith, long, lt, le)
 
@@ -95,7 +95,7 @@ concluded rules n k us vs xs ys m d q v on_us on_vs ek ex ey came ed eq shown h 
     let goes = multiplied rules k (steps_of xs ys) (standing_of m) came in
     let steps : m.steps ≡ steps_of us vs = goes.accepted ∙ ap₂ steps_of ex ey in
     let whole : ShowsMatrix n m.diagrams.store m.quad (work_matrix n (steps_of us vs)) =
-    subst (λ l. ShowsMatrix n m.diagrams.store m.quad (work_matrix n l)) steps (subst (λ i. ShowsMatrix i m.diagrams.store m.quad (work_matrix i m.steps)) (goes.qubits ∙ ek) shown) in
+    subst (λ l. ShowsMatrix n m.diagrams.store m.quad (work_matrix n l)) steps (subst (λ i. ShowsMatrix i m.diagrams.store m.quad (work_matrix i m.steps)) (goes.input ∙ ek) shown) in
     let here : IsVerdict n (matrix_in m.diagrams.store m.quad) m.quad.exponent v =
     subst (λ (s : SliceQuad). IsVerdict n (matrix_in m.diagrams.store s) s.exponent v) eq
     (subst (λ (s : StoreAndCache). IsVerdict n (matrix_in s.store q) q.exponent v) ed (subst (λ i. IsVerdict i (matrix_in d.store q) q.exponent v) ek h)) in

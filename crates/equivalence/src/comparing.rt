@@ -2,12 +2,12 @@
 ghost use Rattle.std.specs.Prelude.{◌≡◌, ◌<◌, ◌≤◌, length, All, Ok, IfOk, OnOk, IfErr, OnErr};
 ghost use Rattle.gate_set.specs.Shape.{IsOn};
 ghost use Rattle.circuit_model.specs.Product.{exponent};
-ghost use Rattle.amp_dense.specs.Standing.{MayStop};
+ghost use Rattle.amp_dense.specs.Chains.{MayStop};
 ghost use Rattle.comparison.specs.Scalars.{comparison, compared};
 ghost use Rattle.comparison.specs.Sides.{step_of};
 ghost use Rattle.comparison.specs.Steps.{steps_of};
 ghost use Rattle.comparison.specs.Verdicts.{IsVerdict};
-ghost use Rattle.unitary_update.specs.Kept.{Standing, standing_of, Accepts, Applies, Multiplies};
+ghost use Rattle.unitary_update.specs.Kept.{Standing, standing_of, Steps, Multiplies};
 
 use crate::verdict::scalar_of;
 use amp_dense::{Rules, Stop};
@@ -72,8 +72,7 @@ fn multiplied(
 fn multiply(alloc: Global, matrix: &mut SlicedMatrix, turn: &Turn) -> Result<(), Stop>
     requires within { IsOn matrix.old.qubits turn.now.gate }
     requires few { length matrix.old.steps < 2000000 }
-    ensures accepts { OnOk result (Accepts (standing_of matrix.old) (step_of turn.now.side turn.now.gate) (standing_of matrix.new)) }
-    ensures stops { IfErr result (MayStop (Applies (standing_of matrix.old) (step_of turn.now.side turn.now.gate))) }
+    ensures { Steps matrix.old (step_of turn.now.side turn.now.gate) result matrix.new }
 {
     match turn.side {
         Side::Left => matrix.left(alloc, &turn.gate),

@@ -14,12 +14,12 @@ use Rattle.slice_quad.specs.Mix.{all_true, mixed, vector_of, zero_digits, entry_
 use Rattle.slice_quad.specs.Turns.{turn}
 use Rattle.slice_quad.specs.Work.{conjunctions, gate_functions, term_functions, coordinate_functions, mix_functions}
 use Rattle.slice_quad.specs.Stepping.{step_functions, work_functions}
-use Rattle.slice_gates.specs.GateWork.{gate_work}
 use Rattle.slice_gates.specs.Stepped.{controls_for}
 use Rattle.slice_gates.specs.Shown.{first_values, by_values}
 use Rattle.amp_dense.specs.Rules.{Settings}
 use Rattle.amp_dense.specs.Standing.{Standing, in_order, with_gate, Accepts}
-use Rattle.state_update.specs.Kept.{needed, work_of, sliced_policy}
+use Rattle.step_upkeep.specs.Chains.{needed, work_of}
+use Rattle.state_update.specs.Kept.{sliced_policy, vector_chain}
 use Rattle.sliq_engine.specs.Steps.{zeros}
 use Rattle.run_laws.specs.Laws.{HasNodes, GatesHaveNodes}
 
@@ -39,23 +39,23 @@ start = record { input = false ∷ false ∷ []; rules = rules; gates = []; orde
 abbrev after : Standing
 after = record { input = false ∷ false ∷ []; rules = rules; gates = h ∷ []; order = 0 ∷ 1 ∷ [] }
 
-count_h : needed start (work_of start h) ≡ 4
-unfolding turn matrix_of entry_of controlled_entry sum_of product_of is_zero applied work halved all_even is_even_quad half_quad truths same_truths fix_both size low_sum slice_value majority odd xor_of and_of less carry sum flipped one_carry negated choice chosen fixed turned shifted from_bit first_bits int_bit bits_of all_true mixed vector_of zero_digits entry_digits entry_negates from_row from_target old_part term negates signed_term raw conjunctions gate_functions term_functions coordinate_functions mix_functions step_functions work_functions gate_work controls_for first_values by_values
+count_h : needed start (work_of vector_chain start h) ≡ 4
+unfolding turn matrix_of entry_of controlled_entry sum_of product_of is_zero applied work halved all_even is_even_quad half_quad truths same_truths fix_both size low_sum slice_value majority odd xor_of and_of less carry sum flipped one_carry negated choice chosen fixed turned shifted from_bit first_bits int_bit bits_of all_true mixed vector_of zero_digits entry_digits entry_negates from_row from_target old_part term negates signed_term raw conjunctions gate_functions term_functions coordinate_functions mix_functions step_functions work_functions controls_for first_values by_values
 count_h = refl
 
-count_cx : needed after (work_of after cx) ≡ 4
-unfolding turn matrix_of entry_of controlled_entry sum_of product_of is_zero applied work halved all_even is_even_quad half_quad truths same_truths fix_both size low_sum slice_value majority odd xor_of and_of less carry sum flipped one_carry negated choice chosen fixed turned shifted from_bit first_bits int_bit bits_of all_true mixed vector_of zero_digits entry_digits entry_negates from_row from_target old_part term negates signed_term raw conjunctions gate_functions term_functions coordinate_functions mix_functions step_functions work_functions gate_work controls_for first_values by_values
+count_cx : needed after (work_of vector_chain after cx) ≡ 4
+unfolding turn matrix_of entry_of controlled_entry sum_of product_of is_zero applied work halved all_even is_even_quad half_quad truths same_truths fix_both size low_sum slice_value majority odd xor_of and_of less carry sum flipped one_carry negated choice chosen fixed turned shifted from_bit first_bits int_bit bits_of all_true mixed vector_of zero_digits entry_digits entry_negates from_row from_target old_part term negates signed_term raw conjunctions gate_functions term_functions coordinate_functions mix_functions step_functions work_functions controls_for first_values by_values
 count_cx = refl
 
 -- no sift is due
-first : HasNodes start h
-first order is = subst (λ (o : List ℕ). needed (in_order start o) (work_of start h) < 64) (sym (is.same refl)) (let few = count_h in omega (arith, few))
+first : HasNodes vector_chain start h
+first order is = subst (λ (o : List ℕ). needed (in_order start o) (work_of vector_chain start h) < 64) (sym (is.same refl)) (let few = count_h in omega (arith, few))
 
-then : HasNodes after cx
-then order is = subst (λ (o : List ℕ). needed (in_order after o) (work_of after cx) < 64) (sym (is.same refl)) (let few = count_cx in omega (arith, few))
+then : HasNodes vector_chain after cx
+then order is = subst (λ (o : List ℕ). needed (in_order after o) (work_of vector_chain after cx) < 64) (sym (is.same refl)) (let few = count_cx in omega (arith, few))
 
 comes_after : (t : Standing) → Accepts sliced_policy start h t → t ≡ after
 comes_after t a = a.same ∙ ap (λ (o : List ℕ). with_gate (in_order start o) h) (a.order.same refl)
 
 pub bell_pair : GatesHaveNodes (record { width = 2; nodes = 64; cache = 1; reclaim = 0; sift = 0 }) (zeros 2) (record { kind = H; on = 0 ∷ []; extra = [] } ∷ record { kind = Cx; on = 0 ∷ 1 ∷ []; extra = [] } ∷ [])
-bell_pair = (first, λ t a. (subst (λ s. HasNodes s cx) (sym (comes_after t a)) then, λ u b. tt))
+bell_pair = (first, λ t a. (subst (λ s. HasNodes vector_chain s cx) (sym (comes_after t a)) then, λ u b. tt))

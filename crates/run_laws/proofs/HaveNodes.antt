@@ -8,24 +8,25 @@ use Rattle.bit_lists.specs.Orders.{IsOrder}
 use Rattle.bit_lists.proofs.Variables.{natural_is_order}
 use Rattle.gate_set.specs.declared.gate.Gate.{Gate}
 use Rattle.gate_set.specs.Shape.{IsOn}
-use Rattle.comparison.specs.Products.{Step, gate_of}
+use Rattle.comparison.specs.Products.{Step, RawStepFits, gate_of}
 use Rattle.comparison.proofs.Undo.{heads}
 use Rattle.phases.specs.Phases.{Phase, GoesOn, ◌>>=◌, HandsOn, StopsWhere, Told, Through}
 use Rattle.amp_dense.specs.Rules.{Settings}
-use Rattle.amp_dense.specs.Standing.{Standing, begun, in_order, with_gate, Accepts, Applies, Walks}
+use Rattle.amp_dense.specs.Standing.{Standing, FitsAfter, begun, in_order, with_gate, Accepts, Applies, Walks}
+use Rattle.amp_dense.specs.Chains.{StandingOf, AppliesWhere}
 use Rattle.amp_dense.specs.declared.stop.Stop.{Stop}
 use Rattle.amp_dense.specs.declared.stop.Stop.TheVariants as stops
-use Rattle.state_update.specs.Kept.{needed, work_of, sliced_policy}
+use Rattle.step_upkeep.specs.Chains.{Chain, needed, policy_of, work_of}
+use Rattle.step_upkeep.proofs.Orders.{is_next_order}
+use Rattle.state_update.specs.Kept.{sliced_policy, vector_chain}
 use Rattle.state_update.proofs.Enough.{enough}
-use Rattle.state_update.proofs.Orders.{is_next_order}
 use Rattle.unitary_update.specs.Kept as matrix
 use Rattle.unitary_update.proofs.Enough as matrix_nodes
-use Rattle.unitary_update.proofs.Orders.{keeps_order}
 use Rattle.unitary_update.proofs.Chains.{only_width}
 use Rattle.causes.specs.declared.cause.Cause.{Cause}
 use Rattle.causes.specs.declared.cause.Cause.TheVariants.{Nodes, OutOfMemory}
 use Rattle.causes.specs.Stops.{cause_of}
-use Rattle.run_laws.specs.Laws.{EachHas, HasNodes, GatesHaveNodes, StepHasNodes, StepsHaveNodes}
+use Rattle.run_laws.specs.Laws.{EachHas, HasNodes, GatesHaveNodes, StepsHaveNodes}
 
 -- ---- phases whose stops are all of one sort
 abbrev pub StopsBy : {X C : Type 0} → (C → Type 0) → Phase X C → Type 0
@@ -71,24 +72,19 @@ IsOther cause = Unit {0}
 abbrev pub IsOtherStop : Stop → Type 0
 IsOtherStop stop = IsOther (cause_of stop)
 
-gate_stops : (s : Standing) (g : Gate) → HasNodes s g → StopsBy IsOtherStop (Applies sliced_policy s g)
-gate_stops s g has (stops.Width number) h = tt
-gate_stops s g has (stops.Nodes number order held) h = not_both (needed (in_order s order) (work_of s g)) s.rules.nodes (has order h.1.reordered) h.1.allowed
-gate_stops s g has stops.OutOfMemory h = h
+gate_stops : {X G : Type 0} (c : Chain X G) (Fits : ℕ → X → List G → G → Type 0) (s : StandingOf X G) (g : G) → HasNodes c s g → StopsBy IsOtherStop (AppliesWhere Fits (policy_of c) s g)
+gate_stops c Fits s g has (stops.Width number) h = tt
+gate_stops c Fits s g has (stops.Nodes number order held) h = not_both (needed (in_order s order) (work_of c s g)) s.rules.nodes (has order h.1.reordered) h.1.allowed
+gate_stops c Fits s g has stops.OutOfMemory h = h
 
 pub walk_stops : (rules : Settings) (input : List Bool) (gates : List Gate) → GatesHaveNodes rules input gates → StopsBy IsOtherStop (Walks sliced_policy (begun input rules) gates)
-walk_stops rules input gates = each_stops IsOtherStop HasNodes (Applies sliced_policy) gate_stops (begun input rules) gates
+walk_stops rules input gates = each_stops IsOtherStop (HasNodes vector_chain) (Applies sliced_policy) (gate_stops vector_chain FitsAfter) (begun input rules) gates
 
 -- ---- steps
-step_stops : (s : matrix.Standing) (t : Step) → StepHasNodes s t → StopsBy IsOtherStop (matrix.Applies s t)
-step_stops s t has (stops.Width number) h = tt
-step_stops s t has (stops.Nodes number order held) h = not_both (matrix.needed (matrix.in_order s order) (matrix.work_of s t)) s.rules.nodes (has order h.1.order_is) h.1.needs
-step_stops s t has stops.OutOfMemory h = h
-
 pub multiplies_stops : (rules : Settings) (n : ℕ) (steps : List Step) → 3 * n ≤ rules.nodes → StepsHaveNodes rules n steps → StopsBy IsOtherStop (matrix.Multiplies rules n steps)
 multiplies_stops rules n steps room has =
     by_both IsOtherStop (matrix.Starts rules n) (λ _. Through matrix.Applies (matrix.begun n rules) steps) (λ cause lacks. absurd (not_both rules.nodes (3 * n) lacks.0 room))
-    (λ _ _. each_stops IsOtherStop StepHasNodes matrix.Applies step_stops (matrix.begun n rules) steps has)
+    (λ _ _. each_stops IsOtherStop (HasNodes matrix.matrix_chain) matrix.Applies (gate_stops matrix.matrix_chain RawStepFits) (matrix.begun n rules) steps has)
 
 -- ---- enough nodes
 -- what each gate finds: rules with enough nodes, and an order of as many variables as qubits
@@ -104,17 +100,17 @@ roomy_next : (s : Standing) (g : Gate) (t : Standing) → IsRoomy s → Accepts 
 roomy_next s g t room a = subst IsRoomy (sym a.same) next
   where
     is : IsOrder t.order × (length t.order ≡ length s.order)
-    is = is_next_order s t.order room.order a.order
+    is = is_next_order vector_chain s t.order room.order a.order
 
     next : IsRoomy (with_gate (in_order s t.order) g)
     next = record { nodes = room.nodes; order = is.0; variables = is.1 ∙ room.variables }
 
-gate_finds : (s : Standing) (g : Gate) → IsRoomy s → IsOn (length s.input) g → HasNodes s g
+gate_finds : (s : Standing) (g : Gate) → IsRoomy s → IsOn (length s.input) g → HasNodes vector_chain s g
 gate_finds s g room on order is =
-    fewer (needed (in_order s order) (work_of s g)) s.rules.nodes (enough (in_order s order) g on ((is_next_order s order room.order is).1 ∙ room.variables) room.nodes)
+    fewer (needed (in_order s order) (work_of vector_chain s g)) s.rules.nodes (enough (in_order s order) g on ((is_next_order vector_chain s order room.order is).1 ∙ room.variables) room.nodes)
 
 -- gates in a row
-gates_from : (s : Standing) (gates : List Gate) → IsRoomy s → All (IsOn (length s.input)) gates → EachHas HasNodes (Applies sliced_policy) s gates
+gates_from : (s : Standing) (gates : List Gate) → IsRoomy s → All (IsOn (length s.input)) gates → EachHas (HasNodes vector_chain) (Applies sliced_policy) s gates
 gates_from s [] room on = tt
 gates_from s (g ∷ gates) room on =
     let both = heads (length s.input) g gates on in
@@ -126,25 +122,25 @@ gates_find rules input gates on limit = gates_from (begun input rules) gates (ro
 -- the same of a step
 record HasRoom (s : matrix.Standing) : Type 0 where
   order : IsOrder s.order
-  variables : length s.order ≡ 2 * s.qubits
-  nodes : (64 * (s.rules.width + 2) + 130) * 2 ^ (2 * s.qubits) ≤ s.rules.nodes
+  variables : length s.order ≡ 2 * s.input
+  nodes : (64 * (s.rules.width + 2) + 130) * 2 ^ (2 * s.input) ≤ s.rules.nodes
 
 room_next : (s : matrix.Standing) (t : Step) (r : matrix.Standing) → HasRoom s → matrix.Accepts s t r → HasRoom r
 room_next s t r room a =
-    let is = keeps_order s r.order room.order a.order in
+    let is = is_next_order matrix.matrix_chain s r.order room.order a.order in
     subst HasRoom (sym a.same) (record { order = is.0; variables = is.1 ∙ room.variables; nodes = room.nodes })
 
-step_finds : (s : matrix.Standing) (t : Step) → HasRoom s → IsOn s.qubits (gate_of t) → StepHasNodes s t
+step_finds : (s : matrix.Standing) (t : Step) → HasRoom s → IsOn s.input (gate_of t) → HasNodes matrix.matrix_chain s t
 step_finds s t room on order is =
-    fewer (matrix.needed (matrix.in_order s order) (matrix.work_of s t)) s.rules.nodes
-    (λ more. matrix_nodes.enough s t on room.order room.variables room.nodes (length s.steps + 1) order s.rules.nodes (refl, record { order_is = is; needs = more; full_is = refl }))
+    fewer (needed (in_order s order) (work_of matrix.matrix_chain s t)) s.rules.nodes
+    (λ more. matrix_nodes.enough s t on room.order room.variables room.nodes (length s.gates + 1) order s.rules.nodes (refl, record { reordered = is; allowed = more; full = refl }))
 
-steps_from : (s : matrix.Standing) (steps : List Step) → HasRoom s → All (λ t. IsOn s.qubits (gate_of t)) steps → EachHas StepHasNodes matrix.Applies s steps
+steps_from : (s : matrix.Standing) (steps : List Step) → HasRoom s → All (λ t. IsOn s.input (gate_of t)) steps → EachHas (HasNodes matrix.matrix_chain) matrix.Applies s steps
 steps_from s [] room on = tt
 steps_from s (t ∷ steps) room on =
-    let here = All-head (λ u. IsOn s.qubits (gate_of u)) t steps on in
-    let rest = All-tail (λ u. IsOn s.qubits (gate_of u)) t steps on in
-    (step_finds s t room here, λ r a. steps_from r steps (room_next s t r room a) (subst (λ (v : matrix.Standing). All (λ u. IsOn v.qubits (gate_of u)) steps) (sym a.same) rest))
+    let here = All-head (λ u. IsOn s.input (gate_of u)) t steps on in
+    let rest = All-tail (λ u. IsOn s.input (gate_of u)) t steps on in
+    (step_finds s t room here, λ r a. steps_from r steps (room_next s t r room a) (subst (λ (v : matrix.Standing). All (λ u. IsOn v.input (gate_of u)) steps) (sym a.same) rest))
 
 -- the identity has its nodes too
 module _ (rules : Settings) (n : ℕ) (limit : (64 * (rules.width + 2) + 130) * 2 ^ (2 * n) ≤ rules.nodes) where

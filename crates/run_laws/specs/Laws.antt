@@ -12,8 +12,10 @@ use Rattle.comparison.specs.Products.{Step}
 use Rattle.outside.specs.Memory.{Shelved, text_of}
 use Rattle.phases.specs.Phases.{Phase}
 use Rattle.amp_dense.specs.Rules.{Settings}
-use Rattle.amp_dense.specs.Standing.{Standing, begun, in_order, Applies}
-use Rattle.state_update.specs.Kept.{IsNextOrder, needed, work_of, sliced_policy}
+use Rattle.amp_dense.specs.Chains.{StandingOf, in_order}
+use Rattle.amp_dense.specs.Standing.{begun, Applies}
+use Rattle.step_upkeep.specs.Chains.{Chain, IsNextOrder, needed, work_of}
+use Rattle.state_update.specs.Kept.{sliced_policy, vector_chain}
 use Rattle.unitary_update.specs.Kept as matrix
 use Rattle.causes.specs.declared.cause.Cause.{Cause}
 use Rattle.causes.specs.declared.cause.Cause.TheVariants.{ReadFault, Nodes}
@@ -38,20 +40,17 @@ abbrev pub EachHas : {X G C : Type 0} → (X → G → Type 0) → (X → G → 
 EachHas Needs phase x [] = Unit {0}
 EachHas {X = X} Needs phase x (g ∷ gs) = Needs x g × ((y : X) → phase x g (Ok y) → EachHas Needs phase y gs)
 
--- a gate's work functions need fewer nodes than the rules allow, in the order in force at it
-abbrev pub HasNodes : Standing → Gate → Type 0
-HasNodes s g = (order : List ℕ) → IsNextOrder s order → needed (in_order s order) (work_of s g) < s.rules.nodes
+-- the work functions of a gate, or of a step of a comparison, need fewer nodes than the rules allow, in the order in force at it
+abbrev pub HasNodes : {X G : Type 0} → Chain X G → StandingOf X G → G → Type 0
+HasNodes c s g = (order : List ℕ) → IsNextOrder c s order → needed (in_order s order) (work_of c s g) < s.rules.nodes
 
 -- so it is with each of these gates, one after the other, on a basis state
 abbrev pub GatesHaveNodes : Settings → List Bool → List Gate → Type 0
-GatesHaveNodes rules input = EachHas HasNodes (Applies sliced_policy) (begun input rules)
+GatesHaveNodes rules input = EachHas (HasNodes vector_chain) (Applies sliced_policy) (begun input rules)
 
--- the same of a step of a comparison, and of each of these steps on the identity
-abbrev pub StepHasNodes : matrix.Standing → Step → Type 0
-StepHasNodes s t = (order : List ℕ) → matrix.IsNextOrder s order → matrix.needed (matrix.in_order s order) (matrix.work_of s t) < s.rules.nodes
-
+-- and with each of these steps on the identity
 abbrev pub StepsHaveNodes : Settings → ℕ → List Step → Type 0
-StepsHaveNodes rules n = EachHas StepHasNodes matrix.Applies (matrix.begun n rules)
+StepsHaveNodes rules n = EachHas (HasNodes matrix.matrix_chain) matrix.Applies (matrix.begun n rules)
 
 -- it comes to this output, and to nothing else
 abbrev pub ComesTo : Phase Output Cause → Output → Type 0

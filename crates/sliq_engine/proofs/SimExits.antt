@@ -5,7 +5,8 @@ use Rattle.outside.specs.Bytes.{Added, AddedSome}
 use Rattle.phases.specs.Phases.{HandsOn}
 use Rattle.amp_dense.specs.Rules.{Settings}
 use Rattle.amp_dense.specs.Standing.{Standing, begun, vector}
-use Rattle.amp_dense.proofs.Walking.{walked, GoesBy}
+use Rattle.amp_dense.proofs.Chains.{GoesBy}
+use Rattle.amp_dense.proofs.Walking.{walked}
 use Rattle.state_update.specs.Kept.{sliced_policy}
 use Rattle.outputs.specs.declared.output.SendStop.{SendStop}
 use Rattle.causes.specs.declared.cause.Cause.{Cause}

@@ -1,9 +1,7 @@
 pub mod Ends
 pub mod Enough
 pub mod GateSteps
-pub mod NodeLemmas
 pub mod NodesKept
-pub mod Orders
 pub mod RunLemmas
 pub mod Shown
 pub mod StateLemmas

@@ -11,22 +11,33 @@ use Rattle.bit_lists.proofs.Places.{listed, length-all_lists}
 use Rattle.gate_set.specs.declared.gate.Gate.{Gate}
 use Rattle.gate_set.specs.Shape.{IsOn}
 use Rattle.circuit_model.specs.Product.{basis_state, same_bits}
-use Rattle.circuit_model.specs.Working.{Scaled, FitsWidth, raw, step, work}
+use Rattle.circuit_model.specs.Working.{Scaled, step, work}
 use Rattle.circuit_model.proofs.VectorLemmas.{same_bits-refl, same_bits-true}
 use Rattle.circuit_model.proofs.WorkingLemmas.{work-last, step_exponent}
 use Rattle.diagram_model.specs.Functions.{bit}
-use Rattle.diagram_model.specs.Stores.{Diagram}
+use Rattle.diagram_model.specs.Stores.{Diagram, function_of}
 use Rattle.diagram_ops.specs.Diagrams.{StoreAndCache, IsConsistent}
 use Rattle.amp_dense.specs.Nonzero as amplitudes
 use Rattle.amp_dense.specs.Rules.{Settings, AreRules}
-use Rattle.amp_dense.specs.Standing.{Fits}
+use Rattle.amp_dense.specs.Standing.{FitsAfter}
+use Rattle.amp_dense.specs.declared.stop.Stop.{Stop}
+use Rattle.slice_vec.proofs.Places.{false_function}
+use Rattle.slice_quad.specs.declared.kind.Step.{Step}
 use Rattle.slice_quad.specs.declared.quad.SliceQuad.{SliceQuad}
 use Rattle.slice_quad.specs.Nonzero.{IsAfter, IsNextNonzero, NoneAfter}
 use Rattle.slice_quad.specs.Started.{IsStart}
 use Rattle.slice_quad.specs.Vectors.{vector_in, Stands}
 use Rattle.slice_quad.specs.Walks.{entries_in}
-use Rattle.slice_gates.specs.Shown.{Shows}
-use Rattle.state_update.specs.Kept.{State, IsKept, standing_of}
+use Rattle.slice_gates.specs.declared.side.Side.TheVariants as sides
+use Rattle.slice_gates.specs.Shown.{IsShown, Shows}
+use Rattle.slice_gates.specs.Stepped.{IsStepOf, step_for}
+use Rattle.slice_gates.proofs.Shown.{fits_shown, fits_from, step_at}
+use Rattle.step_upkeep.specs.Accepted.{IsAccepted}
+use Rattle.step_upkeep.specs.Chains.{Proceeds}
+use Rattle.step_upkeep.proofs.Gates.{shown_vector, shows_kept, gate_shown}
+use Rattle.step_upkeep.proofs.Products.{Holds, proceeded, stood}
+use Rattle.step_upkeep.proofs.StepFor.{step_is}
+use Rattle.state_update.specs.Kept.{State, IsKept, standing_of, vector_chain}
 
 -- ---- the start
 -- the integers at the start are the basis state
@@ -71,50 +82,8 @@ kept_start input rules gates d q few are none sound order limit capacity h = rw 
       kept = h.kept;
     }
 
--- ---- one gate more
-pub kept_next : (s : State) (g : Gate) (gates : List Gate) (v : StoreAndCache) (r : SliceQuad) → IsKept s → IsOn (length s.input) g → length s.gates < 2000000 → gates ≡ s.gates ++ g ∷ []
-    → IsConsistent v → length v.store.order ≡ length s.diagrams.store.order → v.store.limit ≡ s.diagrams.store.limit → v.cache.capacity ≡ s.diagrams.cache.capacity → Stands v.store r
-    → Shows v.store r (step (length s.diagrams.store.order) (work s.gates s.input) g) → length r.four.a ≤ s.rules.width → r.kept ≡ s.quad.kept
-    → IsKept (state_with s.input s.rules gates v r)
-kept_next s g gates v r h on few more sound variables limit capacity stands shows narrow kept = rw more next
-  where
-    n : ℕ
-    n = length s.input
-
-    size : length s.diagrams.store.order ≡ n
-    size = h.variables
-
-    w : Scaled
-    w = work (s.gates ++ g ∷ []) s.input
-
-    vector : step (length s.diagrams.store.order) (work s.gates s.input) g ≡ w
-    vector = ap (λ (m : ℕ). step m (work s.gates s.input) g) size ∙ sym (work-last s.gates g s.input)
-
-    long : length (s.gates ++ g ∷ []) ≡ length s.gates + 1
-    long = length-append {A = Gate} s.gates (g ∷ [])
-
-    next : IsKept (state_with s.input s.rules (s.gates ++ g ∷ []) v r)
-    next = record {
-      few_qubits = h.few_qubits;
-      few_gates = omega (arith, long, few);
-      within = All-append (IsOn n) s.gates (g ∷ []) h.within (All-cons (IsOn n) g [] on (All-nil (IsOn n)));
-      sound = sound;
-      variables = variables ∙ h.variables;
-      limit = limit ∙ h.limit;
-      capacity = capacity ∙ h.capacity;
-      stands = stands;
-      shows = subst (λ (u : Scaled). Shows v.store r u) vector shows;
-      small =
-          let raised = shows.exponent in
-          let before = h.shows.exponent in
-          let few = step_exponent (length s.diagrams.store.order) (work s.gates s.input) g in
-          let small = h.small in
-          omega (arith, raised, before, few, small, long);
-      narrow = narrow;
-      kept = ap (λ k. k.0) kept ∙ h.kept;
-    }
-
--- after a stop
+-- ---- the product that the integers hold
+-- over other diagrams that keep it
 pub kept_stop : (s : State) (v : StoreAndCache) → IsKept s → IsConsistent v → length v.store.order ≡ length s.diagrams.store.order → v.store.limit ≡ s.diagrams.store.limit → v.cache.capacity ≡ s.diagrams.cache.capacity → Stands v.store s.quad
     → Shows v.store s.quad (work s.gates s.input) → IsKept (state_with s.input s.rules s.gates v s.quad)
 kept_stop s v h sound variables limit capacity stands shows = record {
@@ -131,6 +100,80 @@ kept_stop s v h sound variables limit capacity stands shows = record {
   narrow = h.narrow;
   kept = h.kept;
 }
+
+-- over a variable for each qubit
+shown_on : (s : State) → IsKept s → IsShown (length s.input) s.diagrams.store s.quad.four s.quad.exponent (work s.gates s.input)
+shown_on s h = subst (λ n. IsShown n s.diagrams.store s.quad.four s.quad.exponent (work s.gates s.input)) h.variables h.shows
+
+pub holds : (s : State) → IsKept s → Holds vector_chain s.input s.rules s.gates s.diagrams s.quad
+holds s h = record {
+  sound = h.sound;
+  limit = h.limit;
+  stands = h.stands;
+  narrow = h.narrow;
+  function = ap (function_of s.diagrams.store) h.kept ∙ false_function s.diagrams.store h.sound.store;
+  vector = sym (shown_vector (length s.input) s.diagrams.store s.quad.four s.quad.exponent (work s.gates s.input) h.sound.store h.variables (shown_on s h));
+}
+
+-- ---- a gate
+-- the step u on variables, which is the gate g, came or stopped
+module _ (s : State) (g : Gate) (u : Step) (v : StoreAndCache) (r : SliceQuad) (accepted : ℕ) (h : IsKept s) (on : IsOn (length s.input) g) (is : IsStepOf (length s.input) sides.State g u) (count : accepted ≡ length s.gates) where
+  abbrev Told : Result (Unit {0}) Stop → Type 0
+  Told answer = IsAccepted s.rules accepted s.diagrams v u s.quad r answer
+
+  own : (answer : Result (Unit {0}) Stop) → Told answer → IsAccepted s.rules accepted s.diagrams v (step_for (length s.input) sides.State g) s.quad r answer
+  own answer a = subst (λ (k : Step). IsAccepted s.rules accepted s.diagrams v k s.quad r answer) is.value a
+
+  own_is : IsStepOf (length s.input) sides.State g (step_for (length s.input) sides.State g)
+  own_is = step_is (length s.input) sides.State g on.placed on.below
+
+  pub kept_next : length s.gates < 2000000 → Told (Ok tt) → IsKept (state_with s.input s.rules (s.gates ++ g ∷ []) v r)
+  kept_next few a = record {
+    few_qubits = h.few_qubits;
+    few_gates = omega (arith, long, few);
+    within = All-append (IsOn (length s.input)) s.gates (g ∷ []) h.within (All-cons (IsOn (length s.input)) g [] on (All-nil (IsOn (length s.input))));
+    sound = a.keeps.sound;
+    variables = a.keeps.variables ∙ h.variables;
+    limit = a.keeps.limit ∙ h.limit;
+    capacity = a.keeps.capacity ∙ h.capacity;
+    stands = a.stands;
+    shows = subst (λ (w : Scaled). Shows v.store r w) vector shown;
+    small =
+        let raised = shown.exponent in
+        let before = h.shows.exponent in
+        let more = step_exponent (length s.diagrams.store.order) (work s.gates s.input) g in
+        let small = h.small in
+        omega (arith, raised, before, more, small, long);
+    narrow = a.narrow;
+    kept = ap (λ k. k.0) a.kept ∙ h.kept;
+  }
+    where
+      long : length (s.gates ++ g ∷ []) ≡ length s.gates + 1
+      long = length-append {A = Gate} s.gates (g ∷ [])
+
+      vector : step (length s.diagrams.store.order) (work s.gates s.input) g ≡ work (s.gates ++ g ∷ []) s.input
+      vector = ap (λ (m : ℕ). step m (work s.gates s.input) g) h.variables ∙ sym (work-last s.gates g s.input)
+
+      shown : Shows v.store r (step (length s.diagrams.store.order) (work s.gates s.input) g)
+      shown =
+          gate_shown s.diagrams.store v.store s.quad r (work s.gates s.input) g u h.shows (step_at (length s.input) (length s.diagrams.store.order) g u (sym h.variables) is)
+          a.keeps.sound.store a.keeps.variables a.settled
+
+  pub kept_stopped : (stop : Stop) → Told (Err stop) → IsKept (state_with s.input s.rules s.gates v r)
+  kept_stopped stop a =
+      subst (λ (q : SliceQuad). IsKept (state_with s.input s.rules s.gates v q)) (sym a.refused)
+      (kept_stop s v h a.keeps.sound a.keeps.variables a.keeps.limit a.keeps.capacity a.keeps.stands (shows_kept s.diagrams v s.quad (work s.gates s.input) a.keeps h.shows))
+
+  pub gate_came : length s.gates < 2000000 → Told (Ok tt) → Proceeds vector_chain FitsAfter (standing_of s) g (Ok tt) (standing_of (state_with s.input s.rules (s.gates ++ g ∷ []) v r)) v.store
+  gate_came few a =
+      proceeded vector_chain FitsAfter s.input s.rules s.gates s.diagrams s.quad (holds s h) g accepted count v r (own (Ok tt) a)
+      (fits_shown (length s.input) s.rules.width s.diagrams.store s.quad.four s.quad.exponent (work s.gates s.input) g (step_for (length s.input) sides.State g) (shown_on s h) own_is)
+      (holds (state_with s.input s.rules (s.gates ++ g ∷ []) v r) (kept_next few a))
+
+  pub gate_stopped : (stop : Stop) → Told (Err stop) → Proceeds vector_chain FitsAfter (standing_of s) g (Err stop) (standing_of (state_with s.input s.rules s.gates v r)) v.store
+  gate_stopped stop a =
+      stood vector_chain FitsAfter s.input s.rules s.gates s.diagrams s.quad (holds s h) g accepted count v r stop (own (Err stop) a)
+      (fits_from (length s.input) s.rules.width s.diagrams.store s.quad.four s.quad.exponent (work s.gates s.input) g (step_for (length s.input) sides.State g) h.sound.store h.variables (shown_on s h) own_is)
 
 -- ---- what is read
 pub entry_is : (s : State) (x : List Bool) → IsKept s → length x ≡ length s.input → entries_in s.diagrams.store s.quad.four x ≡ (work s.gates s.input).entries x
@@ -184,19 +227,6 @@ number_is s m h size =
     ap (λ (k : ℕ). amplitudes.number_nonzero k (entries_in s.diagrams.store s.quad.four)) size
     ∙ count_same (entries_in s.diagrams.store s.quad.four) (work s.gates s.input).entries (all_lists n) 0 (λ i lt.
     entry_is s (get_or (all_lists n) i []) h (listed n i [] (omega (arith, lt, length-all_lists n))).0)
-
--- ---- what a gate's step says, in the words of the state
-pub fits_state : (s : State) (g : Gate) (width : ℕ) → IsKept s → width ≡ s.rules.width → FitsWidth (length s.diagrams.store.order) width (raw g (work s.gates s.input)).entries → Fits (standing_of s) g
-fits_state s g width h e fits =
-    let size = h.variables in
-    let here : FitsWidth (length s.input) width (raw g (work s.gates s.input)).entries = subst (λ n. FitsWidth n width (raw g (work s.gates s.input)).entries) size fits in
-    subst (λ n. FitsWidth (length s.input) n (raw g (work s.gates s.input)).entries) e here
-
-pub state_fits : (s : State) (g : Gate) (width : ℕ) → IsKept s → width ≡ s.rules.width → Fits (standing_of s) g → FitsWidth (length s.diagrams.store.order) width (raw g (work s.gates s.input)).entries
-state_fits s g width h e fits =
-    let size = h.variables in
-    let here : FitsWidth (length s.input) width (raw g (work s.gates s.input)).entries = subst (λ n. FitsWidth (length s.input) n (raw g (work s.gates s.input)).entries) (sym e) fits in
-    subst (λ n. FitsWidth n width (raw g (work s.gates s.input)).entries) (sym size) here
 
 -- ---- answers by other words
 pub ok_some : {X E : Type 0} (r : Result (Option X) E) (P Q : X → Type 0) → IfOk r (λ next. IfSome next P) → ((x : X) → P x → Q x) → IfOk r (λ next. IfSome next Q)

@@ -5,7 +5,7 @@ use Rattle.gate_set.specs.declared.gate.Gate.{Gate}
 use Rattle.gate_set.specs.Shape.{IsOn}
 use Rattle.amp_dense.specs.declared.stop.Stop.{Stop}
 use Rattle.amp_dense.specs.declared.stop.Stop.TheVariants.{OutOfMemory}
-use Rattle.amp_dense.specs.Standing.{Accepts, Applies, MayStop, NamesOrder, in_order}
+use Rattle.amp_dense.specs.Standing.{Accepts, Applies, MayStop, NamesOrder, Reorders, in_order}
 use Rattle.diagram_model.specs.Stores.{KeepsFunctions, held}
 use Rattle.diagram_ops.specs.Diagrams.{StoreAndCache, IsConsistent}
 use Rattle.level_swap.specs.Swaps.{HasRoom, LacksRoom, level_nodes}
@@ -16,13 +16,14 @@ use Rattle.sifting.specs.Answers.{IsSifted, AreInTurn, last_order}
 use Rattle.sifting.specs.Sifts.{KeepsRoots, IsTidy, functions_of, sift_of}
 use Rattle.slice_quad.specs.declared.quad.SliceQuad.{SliceQuad}
 use Rattle.slice_quad.specs.Fields.{roots_of}
+use Rattle.step_upkeep.specs.Chains.{InWork, MayLeave}
 use Rattle.step_upkeep.specs.Due.{is_due}
 use Rattle.state_update.specs.declared.events.Event.{Event}
 use Rattle.state_update.specs.declared.events.Event.TheVariants as events
 use Rattle.state_update.specs.declared.events.EventStop.{EventStop}
 use Rattle.state_update.specs.declared.events.Report.{Report}
 use Rattle.state_update.specs.declared.events.Report.TheVariants as reports
-use Rattle.state_update.specs.Kept.{State, standing_of, sliced_policy, InWork}
+use Rattle.state_update.specs.Kept.{State, standing_of, sliced_policy, vector_chain}
 
 -- ---- events
 -- the gate of an event, if it is one
@@ -116,14 +117,14 @@ with_diagrams s d = record { input = s.input; rules = s.rules; gates = s.gates; 
 -- a gate was accepted
 pub record Steps (old : State) (g : Gate) (new : State) : Type 0 where
   pub accepts : Accepts sliced_policy (standing_of old) g (standing_of new)
-  pub after_reclaim : is_due old.rules.reclaim (length old.gates) ≡ true → is_due old.rules.sift (length old.gates) ≡ false → HoldsOnly new.diagrams.store (InWork (standing_of old) g)
+  pub after_reclaim : is_due old.rules.reclaim (length old.gates) ≡ true → is_due old.rules.sift (length old.gates) ≡ false → HoldsOnly new.diagrams.store (InWork vector_chain (standing_of old) g)
 
 -- a gate stopped
 pub record StepStops (old : State) (g : Gate) (stop : Stop) (new : State) : Type 0 where
   pub may : MayStop (Applies sliced_policy (standing_of old) g) stop
   pub in_force : NamesOrder new.diagrams.store.order stop
   pub refused : standing_of new ≡ in_order (standing_of old) new.diagrams.store.order
-  pub order : sliced_policy.may_reorder (standing_of old) (Err stop) new.diagrams.store.order
+  pub order : Reorders sliced_policy MayLeave (standing_of old) (Err stop) new.diagrams.store.order
 
 -- what an event does to a state, with its report
 abbrev pub Reports : State → Event → Report → State → Type 0

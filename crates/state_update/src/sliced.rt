@@ -6,11 +6,12 @@ use bit_lists::{Bits, Order, OutOfMemory};
 use diagram_ops::Diagrams;
 use gate_set::Gate;
 use ring_omega::Quad;
-use slice_quad::{QuadStop, SliceQuad, entry, exponent, next_nonzero, start};
+use slice_gates::{Side, step_of};
+use slice_quad::{SliceQuad, entry, exponent, next_nonzero, start};
 use slice_weights::{Walk, count_nonzero, last_nonzero};
 use std::alloc::Global;
 use std::marker::Model;
-use step_upkeep::{Schedule, upkept_gate};
+use step_upkeep::accept;
 
 /// The working vector of at most 64 qubits, as integers over decision diagrams with a variable for each qubit.
 ///
@@ -37,10 +38,12 @@ impl Model for SlicedState {
 }
 
 impl SlicedState {
-    ghost use Rattle.state_update.specs.Kept.{standing_of};
-    ghost use Rattle.amp_dense.specs.Standing.{vector};
+    ghost use Rattle.gate_set.specs.Shape.{IsOn};
+    ghost use Rattle.amp_dense.specs.Standing.{FitsAfter, vector};
     ghost use Rattle.slice_quad.specs.Vectors.{Stands};
     ghost use Rattle.slice_gates.specs.Shown.{Shows};
+    ghost use Rattle.step_upkeep.specs.Chains.{Proceeds};
+    ghost use Rattle.state_update.specs.Kept.{standing_of, vector_chain};
 
     /// The diagrams, with one variable for each qubit, and the integers that stand in them. The kept function is FALSE.
     pub fn parts(&self) -> (&Diagrams, &SliceQuad)
@@ -63,26 +66,38 @@ impl SlicedState {
     {
         self.diagrams.store().order()
     }
-}
 
-/// After how many gates nodes are reclaimed, and after how many variables are sifted.
-fn schedule_of(rules: &Rules) -> Schedule
-    ensures { result ≡ record { reclaim = rules.now.reclaim; sift = rules.now.sift } }
-{
-    Schedule {
-        reclaim: rules.reclaim,
-        sift: rules.sift,
+    /// Applies a gate.
+    fn proceed(&mut self, alloc: Global, gate: &Gate) -> Result<(), Stop>
+        requires within { IsOn (length self.old.input) gate.now }
+        requires few { length self.old.gates < 2000000 }
+        ensures { Proceeds vector_chain FitsAfter (standing_of self.old) gate.now result (standing_of self.new) self.new.diagrams.store }
+    {
+        let accepted = self.accepted();
+        self.gates.reserve(1)?;
+        let s = step_of(gate, Side::State, self.input.len());
+        accept(
+            alloc,
+            &mut self.diagrams,
+            &mut self.quad,
+            &self.rules,
+            &s,
+            accepted,
+        )?;
+        self.gates.push_reserved(gate.copied(alloc));
+        Ok(())
     }
 }
 
 impl Amplitudes for SlicedState {
     ghost use Rattle.std.specs.Prelude.{◌≡◌, ◌<◌, true, false, IfErr, OnOk, OnErr, length};
     ghost use Rattle.gate_set.specs.Shape.{IsOn};
-    ghost use Rattle.amp_dense.specs.Standing.{Standing, Accepts, Applies, MayStop, NamesOrder, in_order};
+    ghost use Rattle.amp_dense.specs.Standing.{Standing, Accepts, Applies, MayStop, NamesOrder, Reorders, in_order};
     ghost use Rattle.node_reclaim.specs.Reclaims.{HoldsOnly};
     ghost use Rattle.slice_weights.specs.Paths.{IsWalk};
+    ghost use Rattle.step_upkeep.specs.Chains.{InWork, MayLeave};
     ghost use Rattle.step_upkeep.specs.Due.{is_due};
-    ghost use Rattle.state_update.specs.Kept.{standing_of, sliced_policy, InWork};
+    ghost use Rattle.state_update.specs.Kept.{standing_of, sliced_policy, vector_chain};
 
     const MOST: u8 = 64;
 
@@ -93,6 +108,8 @@ impl Amplitudes for SlicedState {
     ghost standing = { λ s. standing_of s };
 
     ghost policy = { sliced_policy };
+
+    ghost may_leave = { MayLeave };
 
     ghost walks = { λ s w. IsWalk s.diagrams.store s.quad.four w };
 
@@ -123,35 +140,10 @@ impl Amplitudes for SlicedState {
         ensures stops { IfErr result (MayStop (Applies sliced_policy (standing_of self.old) gate.now)) }
         ensures in_force { IfErr result (NamesOrder (standing_of self.new).order) }
         ensures refused { OnErr result (standing_of self.new ≡ in_order (standing_of self.old) (standing_of self.new).order) }
-        ensures order { sliced_policy.may_reorder (standing_of self.old) result (standing_of self.new).order }
-        ensures after_reclaim { is_due (standing_of self.old).rules.reclaim (length (standing_of self.old).gates) ≡ true → is_due (standing_of self.old).rules.sift (length (standing_of self.old).gates) ≡ false → OnOk result (HoldsOnly self.new.diagrams.store (InWork (standing_of self.old) gate.now)) }
+        ensures order { Reorders sliced_policy MayLeave (standing_of self.old) result (standing_of self.new).order }
+        ensures after_reclaim { is_due (standing_of self.old).rules.reclaim (length (standing_of self.old).gates) ≡ true → is_due (standing_of self.old).rules.sift (length (standing_of self.old).gates) ≡ false → OnOk result (HoldsOnly self.new.diagrams.store (InWork vector_chain (standing_of self.old) gate.now)) }
     {
-        let gates = self.accepted();
-        let number = gates + 1;
-        self.gates.reserve(1)?;
-        let width = self.rules.width();
-        let schedule = schedule_of(&self.rules);
-        match upkept_gate(
-            alloc,
-            &mut self.diagrams,
-            &mut self.quad,
-            gate,
-            width,
-            schedule,
-            gates,
-        ) {
-            Ok(()) => {
-                self.gates.push_reserved(gate.copied(alloc));
-                Ok(())
-            }
-            Err(QuadStop::Width) => Err(Stop::Width { gate: number }),
-            Err(QuadStop::Full { held }) => Err(Stop::Nodes {
-                gate: number,
-                order: self.diagrams.store().order(),
-                held,
-            }),
-            Err(QuadStop::OutOfMemory) => Err(Stop::OutOfMemory),
-        }
+        self.proceed(alloc, gate)
     }
 
     fn entry(&self, x: &Bits) -> Quad {

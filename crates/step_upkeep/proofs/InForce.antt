@@ -1,5 +1,5 @@
 -- The order in force at a step.
-use Rattle.std.proofs.Common.{◌≡◌, ℕ, true, false, List, length, inl, inr, refl, sym, ◌∙◌, ap, subst, arith}
+use Rattle.std.proofs.Common.{◌≡◌, ℕ, List, length, inl, inr, refl, sym, ◌∙◌, ap, subst, arith}
 use Rattle.std.proofs.lemmas.Bool.{cases_Bool, false≢true}
 use Rattle.bit_lists.specs.Orders.{IsOrder}
 use Rattle.diagram_model.specs.Functions.{Function}

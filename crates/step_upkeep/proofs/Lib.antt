@@ -3,6 +3,8 @@ pub mod Enough
 pub mod Gates
 pub mod InForce
 pub mod Keeping
+pub mod Orders
+pub mod Products
 pub mod Roots
 pub mod Sifted
 pub mod StepFor

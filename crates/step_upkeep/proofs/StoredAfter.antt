@@ -1,11 +1,11 @@
 -- The functions that a vector or matrix is stored by after a step are among the step's work functions.
-use Rattle.std.proofs.Common.{◌≡◌, ◌⊎◌, ℕ, zero, suc, ◌+◌, ◌-◌, ◌^◌, ◌≤◌, ℤ, pos, ◌+ℤ◌, Bool, true, false, cond, List, [], ◌++◌, inl, inr, refl, sym, ◌∙◌, ap, subst, arith}
+use Rattle.std.proofs.Common.{◌≡◌, ◌⊎◌, ℕ, zero, suc, ◌+◌, ◌-◌, ◌^◌, ◌≤◌, ℤ, pos, ◌+ℤ◌, Bool, true, false, cond, List, [], ◌++◌, length, inl, inr, refl, sym, ◌∙◌, ap, subst, arith}
 use Rattle.std.specs.Prelude.{◌≤ℤ◌, ◌<ℤ◌, neg_ℤ}
 use Rattle.std.proofs.lemmas.Int.{ints}
 use mathlib.Core.Path.{fun_ext}
 use Rattle.ring_omega.specs.declared.quad.Quad.{Quad}
 use Rattle.ring_omega.specs.Ring.{one_quad, zero_quad}
-use Rattle.circuit_model.specs.Working.{IntFits, QuadFits}
+use Rattle.circuit_model.specs.Working.{Scaled, IsHalved, IntFits, QuadFits, FitsWidth}
 use Rattle.diagram_model.specs.Bryant.{IsOneOf}
 use Rattle.diagram_model.specs.Functions.{Assignment, Function}
 use Rattle.diagram_model.proofs.Prefixes.{prefix_self}
@@ -22,7 +22,7 @@ use Rattle.slice_quad.specs.Mix.{Vector}
 use Rattle.slice_quad.specs.Settled.{doubled}
 use Rattle.slice_quad.specs.Stepping.{IsStepOn, stepped, step_functions, work_functions}
 use Rattle.slice_quad.specs.Turns.{coordinate}
-use Rattle.slice_gates.proofs.Doubles.{doubled_quad}
+use Rattle.slice_gates.proofs.Doubles.{doubled_quad, times_power-two}
 use Rattle.step_upkeep.specs.Stored.{stored_functions}
 use Rattle.step_upkeep.proofs.Digits.{bit_wanted}
 use Rattle.step_upkeep.proofs.Stored.{one_of_both, one_of_bits}
@@ -100,6 +100,21 @@ pub halved_fits : (w t : ℕ) (p q : Quad) → p ≡ doubled_quad t q → QuadFi
 halved_fits w t p q e h =
     let f : QuadFits w (doubled_quad t q) = subst (QuadFits w) e h in
     record { a_fits = halved_range w t q.a f.a_fits; b_fits = halved_range w t q.b f.b_fits; c_fits = halved_range w t q.c f.c_fits; d_fits = halved_range w t q.d f.d_fits }
+
+-- ---- products by lists of bits
+-- a product fits after the halving too
+pub fits_halved : (n w k : ℕ) (r : List Bool → Quad) (h : Scaled) → IsHalved n r k h → FitsWidth n w r → FitsWidth n w h.entries
+fits_halved n w k r h is fits x len = halved_fits w is.times (r x) (h.entries x) (is.taken_out x len ∙ times_power-two is.times (h.entries x)) (fits x len)
+
+-- at the lists that assignments are
+module _ (n : ℕ) (list : Assignment → List Bool) (long : (x : Assignment) → length (list x) ≡ n) where
+  -- a halved product, as many times doubled as it was halved, is the product
+  pub halved_out : (v : Vector) (k : ℕ) (r : List Bool → Quad) (h : Scaled) → IsHalved n r k h → ((x : Assignment) → r (list x) ≡ v x) → (t : ℕ) × ((x : Assignment) → doubled_quad t (h.entries (list x)) ≡ v x)
+  halved_out v k r h is same = (is.times, λ x. sym (is.taken_out (list x) (long x) ∙ times_power-two is.times (h.entries (list x))) ∙ same x)
+
+  -- coefficients that fit are signed numbers of so many bits
+  pub values_in : (w m : ℕ) (v : List Bool → Quad) → w ≡ suc m → FitsWidth n w v → AreIn m (λ x. v (list x))
+  values_in w m v e h z x = in_range w m (v (list x)) z e (h (list x) (long x))
 
 -- ---- 0 and 1 fit
 one_power : (k : ℕ) → 1 ≤ 2 ^ k

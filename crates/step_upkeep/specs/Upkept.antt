@@ -1,5 +1,5 @@
 -- What upkeep, and a step with upkeep, keep of a vector or matrix, and what a refusal says.
-use Rattle.std.specs.Prelude.{◌≡◌, ◌≤◌, ℕ, List, length, map, Result, Err}
+use Rattle.std.specs.Prelude.{◌≡◌, ◌≤◌, List, length, map}
 use Rattle.diagram_model.specs.Functions.{Function}
 use Rattle.diagram_model.specs.Size.{size}
 use Rattle.diagram_model.specs.Stores.{Diagram, function_of}
@@ -12,8 +12,6 @@ use Rattle.slice_quad.specs.declared.stop.QuadStop.TheVariants as quads
 use Rattle.slice_quad.specs.Fields.{roots_of}
 use Rattle.slice_quad.specs.Stepping.{work_functions}
 use Rattle.slice_quad.specs.Vectors.{vector_in, Stands}
-use Rattle.step_upkeep.specs.declared.upkeep.Schedule.{Schedule}
-use Rattle.step_upkeep.specs.Due.{IsInForce, IsLeft}
 
 -- the vector or matrix q stands in the diagrams as before, over as many variables, whatever nodes they lost or got and in whatever order
 pub record KeepsQuad (old : StoreAndCache) (q : SliceQuad) (new : StoreAndCache) : Type 0 where
@@ -32,11 +30,6 @@ functions_in d q = map (function_of d) (roots_of q)
 -- a function that arises from one of these, by fixing a prefix of the order
 abbrev pub InQuad : Diagram → SliceQuad → Property
 InQuad d q = IsPrefixOfSome d.order (functions_in d q)
-
--- the order after the answer to a step on it, which comes after so many gates
-abbrev pub Reorders : Schedule → ℕ → Diagram → SliceQuad → Result (Unit {0}) QuadStop → List ℕ → Type 0
-Reorders t gates d q (Err quads.OutOfMemory) new = IsLeft t.sift gates d.order new
-Reorders t gates d q _ new = IsInForce t.sift gates (functions_in d q) d.limit d.order new
 
 -- the work functions of a step on it
 abbrev pub work_in : Diagram → Step → SliceQuad → List Function

@@ -7,6 +7,7 @@ ghost use Rattle.slice_quad.specs.Vectors.{Stands};
 ghost use Rattle.step_upkeep.specs.Due.{is_due, IsInForce};
 ghost use Rattle.step_upkeep.specs.Upkept.{KeepsQuad, InQuad, functions_in};
 
+use amp_dense::Rules;
 use bit_lists::OutOfMemory;
 use diagram_ops::Diagrams;
 use node_reclaim::reclaim;
@@ -19,6 +20,16 @@ use std::alloc::Global;
 pub struct Schedule {
     pub reclaim: u32,
     pub sift: u32,
+}
+
+/// When the rules want upkeep.
+pub(crate) fn schedule_of(rules: &Rules) -> Schedule
+    ensures { result ≡ record { reclaim = rules.now.reclaim; sift = rules.now.sift } }
+{
+    Schedule {
+        reclaim: rules.reclaim,
+        sift: rules.sift,
+    }
 }
 
 /// Whether upkeep is due after so many accepted gates: after each `every` of them, and never where that is 0.

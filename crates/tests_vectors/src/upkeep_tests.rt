@@ -7,10 +7,11 @@ use crate::tools::{begun, entry_at, quad};
 use bit_lists::Bits;
 use diagram_ops::Diagrams;
 use gate_set::{Gate, Kind};
+use slice_gates::gate_step;
 use slice_quad::{SliceQuad, exponent};
 use std::alloc::Global;
 use std::process::Abort;
-use step_upkeep::{Schedule, is_due, reclaim_to, upkept_gate};
+use step_upkeep::{Schedule, is_due, keep_up, reclaim_to};
 
 #[test]
 fn due_after_each_so_many(rt: HostRuntime) {
@@ -59,8 +60,9 @@ fn same_bits(alloc: Global, d: &mut Diagrams, q: &mut SliceQuad, every: u32) -> 
         if exponent(q) >= 100 {
             return false;
         }
-        let done = upkept_gate(alloc, d, q, &gate_at(alloc, i), 4, schedule, 1).is_ok();
-        all = all && done;
+        let kept = keep_up(alloc, d, q, schedule, 1).is_ok();
+        let done = gate_step(d, q, &gate_at(alloc, i), 4).is_ok();
+        all = all && kept && done;
     }
     all
 }

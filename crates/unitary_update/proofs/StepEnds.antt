@@ -3,11 +3,12 @@ use Rattle.std.proofs.Common.{◌≡◌, ◌⊎◌, ℕ, zero, suc, ◌+◌, ◌
 use Rattle.std.proofs.Math.Path.{ap₂}
 use Rattle.bit_lists.specs.Lists.{all_lists, place_of, bits_at, with_bits}
 use Rattle.bit_lists.specs.Orders.{AreVars}
+use Rattle.amp_dense.specs.Chains.{with_gate}
 use Rattle.gate_set.specs.Matrix.{times_entry}
 use Rattle.gate_set.specs.Shape.{qubits_of, gate_entry}
 use Rattle.gate_set.specs.Shape.{IsOn}
 use Rattle.circuit_model.specs.Product.{same_bits}
-use Rattle.circuit_model.specs.Working.{Scaled, IsHalved, QuadFits, FitsWidth}
+use Rattle.circuit_model.specs.Working.{Scaled, FitsWidth}
 use Rattle.circuit_model.proofs.SumLemmas.{sum_over-same, length-with_bits}
 use Rattle.circuit_model.proofs.VectorLemmas.{applied-same}
 use Rattle.circuit_model.proofs.WorkingLemmas.{IsHalved-halved}
@@ -15,28 +16,21 @@ use Rattle.comparison.specs.Scalars.{Matrix}
 use Rattle.comparison.specs.Products.{Step, gate_of, times_step, right_product, by_position, raw_matrix, step_matrix, work_matrix, RawStepFits}
 use Rattle.comparison.specs.Products.Step.{left, right}
 use Rattle.comparison.proofs.Working.{work_matrix-last}
-use Rattle.diagram_model.specs.Bryant.{IsOneOf}
-use Rattle.diagram_model.specs.Functions.{Assignment, Function, bit}
-use Rattle.diagram_model.specs.Size.{size}
-use Rattle.diagram_ops.specs.Made.{IsPrefixOfSome}
-use Rattle.node_reclaim.proofs.Bound.{size-le}
-use Rattle.slice_quad.specs.RowsColumns.{row_equals_column}
-use Rattle.slice_quad.specs.Stepping.{stepped, work_functions}
-use Rattle.slice_gates.specs.declared.side.Side.TheVariants.{Rows, Columns}
+use Rattle.diagram_model.specs.Functions.{Assignment, bit}
+use Rattle.slice_quad.specs.Stepping.{stepped}
 use Rattle.slice_gates.specs.Shown.{at_lists, first_values, ReadsBelow}
 use Rattle.slice_gates.specs.Sides.{woven}
 use Rattle.slice_gates.proofs.Agreeing.{length-first_values, at_list, stepped-reads}
-use Rattle.slice_gates.proofs.Doubles.{doubled_quad, times_power-two}
+use Rattle.slice_gates.proofs.Doubles.{doubled_quad}
 use Rattle.slice_gates.proofs.Matrices.{left_stepped, right_stepped}
 use Rattle.slice_gates.proofs.Moved.{take_front, drop_front}
-use Rattle.step_upkeep.specs.Stored.{stored_functions}
-use Rattle.step_upkeep.proofs.StepFor.{step_is, values_agree}
-use Rattle.step_upkeep.proofs.StoredAfter.{in_range, stored_wanted, either_end, halved_fits, unit_fits}
+use Rattle.step_upkeep.specs.Chains.{work_of, stored_of, needed}
+use Rattle.step_upkeep.proofs.Products.{accepted_or_refused as product_end}
+use Rattle.step_upkeep.proofs.StepFor.{values_agree}
+use Rattle.step_upkeep.proofs.StoredAfter.{fits_halved, halved_out, values_in, unit_fits}
 use Rattle.step_upkeep.proofs.Values.{AreIn}
-use Rattle.unitary_update.specs.Kept.{Standing, with_step, sliced_step, by_variables, work_of, stored_of, needed, IsStored}
-use Rattle.unitary_update.specs.Sided.{IsSided}
-use Rattle.unitary_update.proofs.MatrixLemmas.{sided_within}
-use Rattle.unitary_update.proofs.NodeLemmas.{values_same, woven_values}
+use Rattle.unitary_update.specs.Kept.{Standing, matrix_chain, sliced_step, by_variables}
+use Rattle.unitary_update.proofs.MatrixLemmas.{sided_is, sided_within, values_same, woven_values}
 
 -- ---- the matrix over the variables
 abbrev row : ℕ → Assignment → List Bool
@@ -78,10 +72,6 @@ reads n m x y same =
     ap₂ m (values_agree n (λ q. x (2 * q)) (λ q. y (2 * q)) (λ q lt. same (2 * q) (omega (arith, lt)))) (values_agree n (λ q. x (2 * q + 1)) (λ q. y (2 * q + 1)) (λ q lt. same (2 * q + 1) (omega (arith, lt))))
 
 -- ---- the step on it
-sided_is : (n : ℕ) (t : Step) → IsOn n (gate_of t) → IsSided n t (sliced_step n t)
-sided_is n (left g) on = step_is (2 * n) Rows g on.placed (λ i d lt. let less = on.below i d lt in omega (arith, less))
-sided_is n (right g) on = step_is (2 * n) Columns g on.placed (λ i d lt. let less = on.below i d lt in omega (arith, less))
-
 product_is : (n : ℕ) (t : Step) (m : Matrix) (r c : List Bool) → IsOn n (gate_of t) → length r ≡ n → length c ≡ n → times_step t m r c ≡ stepped (sliced_step n t) (by_variables n m) (bit (woven r c))
 unfolding right_product
 product_is n (left g) m r c on er ec =
@@ -108,64 +98,37 @@ long n x = length-append (row n x) (column n x) ∙ ap₂ (λ i j. i + j) (lengt
 taken_out : (n : ℕ) (t : Step) (w : Scaled) → IsOn n (gate_of t)
     → (k : ℕ) × ((x : Assignment) → doubled_quad k (by_variables n (by_position (step_matrix n w t).entries) x) ≡ stepped (sliced_step n t) (by_variables n (by_position w.entries)) x)
 unfolding by_variables
-taken_out n t w on = (h.times, λ x. at x)
-  where
-    h : IsHalved (n + n) (raw_matrix n w t).entries (raw_matrix n w t).exponent (step_matrix n w t)
-    h = IsHalved-halved (n + n) (raw_matrix n w t).entries (raw_matrix n w t).exponent
+taken_out n t w on =
+    let raw = raw_matrix n w t in
+    let parts : (x : Assignment) → raw.entries (row n x ++ column n x) ≡ times_step t (by_position w.entries) (row n x) (column n x) = λ x.
+    let er = length-first_values n (λ q. x (2 * q)) in
+    ap₂ (times_step t (by_position w.entries)) (take_front (row n x) (column n x) n er) (drop_front (row n x) (column n x) n er) in
+    halved_out (n + n) (λ x. row n x ++ column n x) (long n) (stepped (sliced_step n t) (by_variables n (by_position w.entries))) raw.exponent raw.entries (step_matrix n w t)
+    (IsHalved-halved (n + n) raw.entries raw.exponent) (λ x. parts x ∙ stepped_is n t (by_position w.entries) x on)
 
-    at : (x : Assignment) → doubled_quad h.times (by_variables n (by_position (step_matrix n w t).entries) x) ≡ stepped (sliced_step n t) (by_variables n (by_position w.entries)) x
-    at x =
-        let r = row n x in
-        let c = column n x in
-        let er = length-first_values n (λ q. x (2 * q)) in
-        let q = (step_matrix n w t).entries (r ++ c) in
-        let taken : (raw_matrix n w t).entries (r ++ c) ≡ doubled_quad h.times q = h.taken_out (r ++ c) (long n x) ∙ times_power-two h.times q in
-        let parts : (raw_matrix n w t).entries (r ++ c) ≡ times_step t (by_position w.entries) r c = ap₂ (times_step t (by_position w.entries)) (take_front r c n er) (drop_front r c n er) in
-        sym taken ∙ parts ∙ stepped_is n t (by_position w.entries) x on
-
-values_in : (n W m : ℕ) (w : Scaled) → W ≡ suc m → FitsWidth (n + n) W w.entries → AreIn m (by_variables n (by_position w.entries))
+in_bits : (n W m : ℕ) (w : Scaled) → W ≡ suc m → FitsWidth (n + n) W w.entries → AreIn m (by_variables n (by_position w.entries))
 unfolding by_variables
-values_in n W m w e h z x = in_range W m (w.entries (row n x ++ column n x)) z e (h (row n x ++ column n x) (long n x))
-
--- each stored function is among the step's work functions
-step_wanted : (vs : List ℕ) (n W m : ℕ) (t : Step) (w : Scaled) → W ≡ suc m → IsOn n (gate_of t) → FitsWidth (n + n) W w.entries
-    → (f : Function) → IsOneOf (stored_functions W (row_equals_column n) (by_variables n (by_position (step_matrix n w t).entries))) f
-    → IsPrefixOfSome vs (work_functions W (row_equals_column n) (sliced_step n t) (by_variables n (by_position w.entries))) f
-step_wanted vs n W m t w wide on fits =
-    let out = taken_out n t w on in
-    stored_wanted vs W m out.0 (row_equals_column n) (sliced_step n t) (by_variables n (by_position w.entries)) (by_variables n (by_position (step_matrix n w t).entries)) wide (values_in n W m w wide fits) out.1 (2 * n) (sided_within n t (sliced_step n t) (sided_is n t on))
+in_bits n W m w = values_in (n + n) (λ x. row n x ++ column n x) (long n) W m w.entries
 
 -- ---- a step has an end
 -- where the coefficients fit the width, a step may be accepted, or be refused for want of nodes
-pub accepted_or_refused : (s : Standing) (t : Step) (m : ℕ) → s.rules.width ≡ suc m → AreVars (length s.order) s.order → IsOn s.qubits (gate_of t)
-    → FitsWidth (s.qubits + s.qubits) s.rules.width (work_matrix s.qubits s.steps).entries → IsStored (with_step s t) ⊎ (s.rules.nodes ≤ needed s (work_of s t))
-unfolding stored_of work_of
+pub accepted_or_refused : (s : Standing) (t : Step) (m : ℕ) → s.rules.width ≡ suc m → AreVars (length s.order) s.order → IsOn s.input (gate_of t)
+    → FitsWidth (s.input + s.input) s.rules.width (work_matrix s.input s.gates).entries → (needed s (stored_of matrix_chain (with_gate s t)) ≤ s.rules.nodes) ⊎ (s.rules.nodes ≤ needed s (work_of matrix_chain s t))
 accepted_or_refused s t m wide vars on fits =
-    let n = s.qubits in
-    let k = length s.order in
-    let w = work_matrix s.qubits s.steps in
-    let stored : Scaled → List Function = λ u. stored_functions s.rules.width (row_equals_column n) (by_variables n (by_position u.entries)) in
-    let same : stored_of (with_step s t) ≡ stored (step_matrix n w t) = ap stored (work_matrix-last n s.steps t) in
-    let le : size k s.order (stored (step_matrix n w t)) ≤ needed s (work_of s t) =
-    size-le k k s.order (work_of s t) (stored (step_matrix n w t)) vars (step_wanted s.order n s.rules.width m t w wide on fits) in
-    let counts : needed s (stored_of (with_step s t)) ≡ size k s.order (stored (step_matrix n w t)) = ap (λ (fs : List Function). size k s.order fs) same in
-    either_end (needed s (stored_of (with_step s t))) (needed s (work_of s t)) s.rules.nodes (omega (arith, le, counts))
+    let n = s.input in
+    let w = work_matrix n s.gates in
+    let IsDoubled : Scaled → ℕ → Type 0 = λ u k. (x : Assignment) → doubled_quad k (by_variables n (by_position u.entries) x) ≡ stepped (sliced_step n t) (by_variables n (by_position w.entries)) x in
+    let out = taken_out n t w on in
+    let halved : IsDoubled (work_matrix n (s.gates ++ t ∷ [])) out.0 = subst (λ u. IsDoubled u out.0) (sym (work_matrix-last n s.gates t)) out.1 in
+    product_end matrix_chain s t (2 * n) m out.0 wide vars (sided_within n t (sliced_step n t) (sided_is n t on)) (in_bits n s.rules.width m w wide fits) halved
 
 -- ---- the coefficients fit on
 -- after a step that fits
 pub fits_next : (n W : ℕ) (steps : List Step) (t : Step) → RawStepFits W n steps t → FitsWidth (n + n) W (work_matrix n (steps ++ t ∷ [])).entries
-fits_next n W steps t fits = subst (λ (u : Scaled). FitsWidth (n + n) W u.entries) (sym (work_matrix-last n steps t)) (λ x len. at x len)
-  where
-    w : Scaled
-    w = work_matrix n steps
-
-    h : IsHalved (n + n) (raw_matrix n w t).entries (raw_matrix n w t).exponent (step_matrix n w t)
-    h = IsHalved-halved (n + n) (raw_matrix n w t).entries (raw_matrix n w t).exponent
-
-    at : (x : List Bool) → length x ≡ n + n → QuadFits W ((step_matrix n w t).entries x)
-    at x len =
-        let q = (step_matrix n w t).entries x in
-        halved_fits W h.times ((raw_matrix n w t).entries x) q (h.taken_out x len ∙ times_power-two h.times q) (fits x len)
+fits_next n W steps t fits =
+    let r = raw_matrix n (work_matrix n steps) t in
+    subst (λ (u : Scaled). FitsWidth (n + n) W u.entries) (sym (work_matrix-last n steps t))
+    (fits_halved (n + n) W r.exponent r.entries (step_matrix n (work_matrix n steps) t) (IsHalved-halved (n + n) r.entries r.exponent) fits)
 
 -- and at the start
 pub fits_begun : (n W : ℕ) → 2 ≤ W → FitsWidth (n + n) W (work_matrix n []).entries

@@ -13,12 +13,12 @@ ghost use Rattle.unitary_update.specs.Kept.{Standing, Applies};
 /// doesn't fit, or may be refused for want of nodes. The coefficients fit at the start, and after each step that fits.
 pub fn each_step_has_an_end()
     ensures begun { (n width : ℕ) → 2 ≤ width → FitsWidth (n + n) width (work_matrix n []).entries }
-    ensures ends { (s : Standing) (t : Step) → 2 ≤ s.rules.width → IsOrder s.order → IsOn s.qubits (gate_of t) → FitsWidth (s.qubits + s.qubits) s.rules.width (work_matrix s.qubits s.steps).entries → HasSomeEnd (λ (stop : Stop). Unit {0}) (Applies s t) }
+    ensures ends { (s : Standing) (t : Step) → 2 ≤ s.rules.width → IsOrder s.order → IsOn s.input (gate_of t) → FitsWidth (s.input + s.input) s.rules.width (work_matrix s.input s.gates).entries → HasSomeEnd (λ (stop : Stop). Unit {0}) (Applies s t) }
     ensures fits { (n width : ℕ) (steps : List Step) (t : Step) → RawStepFits width n steps t → FitsWidth (n + n) width (work_matrix n (steps ++ t ∷ [])).entries }
 {}
 
 /// Where the rules let the diagrams hold (64·(width + 2) + 130)·2^(2·qubits) nodes, no step is refused for want of nodes: it has fewer work functions
 /// than the first factor says, and each of them, over two variables a qubit, needs fewer nodes than the second.
 pub fn enough_nodes()
-    ensures { (s : Standing) (t : Step) → IsOn s.qubits (gate_of t) → IsOrder s.order → length s.order ≡ 2 * s.qubits → (64 * (s.rules.width + 2) + 130) * 2 ^ (2 * s.qubits) ≤ s.rules.nodes → (number : ℕ) (order : List ℕ) (held : ℕ) → ¬ Applies s t (Err (Nodes number order held)) }
+    ensures { (s : Standing) (t : Step) → IsOn s.input (gate_of t) → IsOrder s.order → length s.order ≡ 2 * s.input → (64 * (s.rules.width + 2) + 130) * 2 ^ (2 * s.input) ≤ s.rules.nodes → (number : ℕ) (order : List ℕ) (held : ℕ) → ¬ Applies s t (Err (Nodes number order held)) }
 {}

@@ -4,7 +4,6 @@
 mod accepted;
 mod laws;
 mod matrix;
-mod multiplying;
 mod weaving;
 
 pub use accepted::MatrixStep;

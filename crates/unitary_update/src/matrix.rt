@@ -1,8 +1,7 @@
 //! A matrix as integers over decision diagrams.
-ghost use Rattle.std.specs.Prelude.{◌≡◌, ◌*◌, ◌<◌, ◌≤◌, ◌++◌, true, false, length, IfOk, IfErr, OnOk, OnErr};
+ghost use Rattle.std.specs.Prelude.{◌≡◌, ◌*◌, ◌<◌, ◌≤◌, ◌++◌, length, IfOk, IfErr, OnOk};
 
-use crate::accepted::MatrixStep;
-use crate::multiplying::multiply;
+use crate::accepted::{MatrixStep, sided};
 use crate::weaving::interleaved;
 use amp_dense::{Rules, Stop};
 use bit_lists::{Bits, Order};
@@ -10,10 +9,10 @@ use diagram_ops::Diagrams;
 use gate_set::Gate;
 use node_store::StoreStop;
 use ring_omega::Quad;
-use slice_quad::{QuadStop, SliceQuad, entry, exponent, identity};
+use slice_quad::{SliceQuad, entry, exponent, identity};
 use std::alloc::Global;
 use std::marker::Model;
-use step_upkeep::Schedule;
+use step_upkeep::accept;
 
 /// A matrix on at most 64 qubits, as integers over decision diagrams: of qubit q, variable 2q is the row's and
 /// variable 2q + 1 the column's.
@@ -41,27 +40,14 @@ impl Model for SlicedMatrix {
     ghost invariant = { λ m. IsKept (record { qubits = m.qubits; rules = m.rules; steps = map step_in m.steps.items; diagrams = m.diagrams; quad = m.quad }) };
 }
 
-/// When the rules want upkeep.
-fn schedule_of(rules: &Rules) -> Schedule
-    ensures reclaim { result.reclaim ≡ rules.now.reclaim }
-    ensures sift { result.sift ≡ rules.now.sift }
-{
-    Schedule {
-        reclaim: rules.reclaim,
-        sift: rules.sift,
-    }
-}
-
 impl SlicedMatrix {
     ghost use Rattle.gate_set.specs.Shape.{IsOn};
-    ghost use Rattle.amp_dense.specs.Standing.{MayStop, NamesOrder};
+    ghost use Rattle.amp_dense.specs.Chains.{MayStop};
     ghost use Rattle.slice_quad.specs.RowsColumns.{KeepsRowEqualsColumn};
     ghost use Rattle.slice_quad.specs.Vectors.{Stands};
     ghost use Rattle.comparison.specs.Products.{gate_of, work_matrix};
     ghost use Rattle.comparison.specs.Products.Step.{left, right};
-    ghost use Rattle.node_reclaim.specs.Reclaims.{HoldsOnly};
-    ghost use Rattle.step_upkeep.specs.Due.{is_due};
-    ghost use Rattle.unitary_update.specs.Kept.{standing_of, step_in, begun, in_order, Accepts, Applies, Reorders, InWork, Starts, ShowsMatrix};
+    ghost use Rattle.unitary_update.specs.Kept.{standing_of, step_in, begun, Steps, Starts, ShowsMatrix};
 
     /// The identity, with no step accepted yet.
     ///
@@ -100,69 +86,39 @@ impl SlicedMatrix {
     pub fn left(&mut self, alloc: Global, gate: &Gate) -> Result<(), Stop>
         requires within { IsOn self.old.qubits gate.now }
         requires few { length self.old.steps < 2000000 }
-        ensures accepts { OnOk result (Accepts (standing_of self.old) (left gate.now) (standing_of self.new)) }
-        ensures stops { IfErr result (MayStop (Applies (standing_of self.old) (left gate.now))) }
-        ensures in_force { IfErr result (NamesOrder (standing_of self.new).order) }
-        ensures refused { OnErr result (standing_of self.new ≡ in_order (standing_of self.old) (standing_of self.new).order) }
-        ensures order { Reorders (standing_of self.old) result (standing_of self.new).order }
-        ensures after_reclaim { is_due (standing_of self.old).rules.reclaim (length (standing_of self.old).steps) ≡ true → is_due (standing_of self.old).rules.sift (length (standing_of self.old).steps) ≡ false → OnOk result (HoldsOnly self.new.diagrams.store (InWork (standing_of self.old) (left gate.now))) }
+        ensures { Steps self.old (left gate.now) result self.new }
     {
-        let factor = gate.copied(alloc);
-        self.accept(alloc, MatrixStep::Left(factor))
+        self.multiply(alloc, MatrixStep::Left(gate.copied(alloc)))
     }
 
     /// Multiplies by the gate's matrix from the right: the matrix M becomes M·G, halved. Stops are those of `left`.
     pub fn right(&mut self, alloc: Global, gate: &Gate) -> Result<(), Stop>
         requires within { IsOn self.old.qubits gate.now }
         requires few { length self.old.steps < 2000000 }
-        ensures accepts { OnOk result (Accepts (standing_of self.old) (right gate.now) (standing_of self.new)) }
-        ensures stops { IfErr result (MayStop (Applies (standing_of self.old) (right gate.now))) }
-        ensures in_force { IfErr result (NamesOrder (standing_of self.new).order) }
-        ensures refused { OnErr result (standing_of self.new ≡ in_order (standing_of self.old) (standing_of self.new).order) }
-        ensures order { Reorders (standing_of self.old) result (standing_of self.new).order }
-        ensures after_reclaim { is_due (standing_of self.old).rules.reclaim (length (standing_of self.old).steps) ≡ true → is_due (standing_of self.old).rules.sift (length (standing_of self.old).steps) ≡ false → OnOk result (HoldsOnly self.new.diagrams.store (InWork (standing_of self.old) (right gate.now))) }
+        ensures { Steps self.old (right gate.now) result self.new }
     {
-        let factor = gate.copied(alloc);
-        self.accept(alloc, MatrixStep::Right(factor))
+        self.multiply(alloc, MatrixStep::Right(gate.copied(alloc)))
     }
 
     /// Makes a step.
-    fn accept(&mut self, alloc: Global, factor: MatrixStep) -> Result<(), Stop>
+    fn multiply(&mut self, alloc: Global, factor: MatrixStep) -> Result<(), Stop>
         requires within { IsOn self.old.qubits (gate_of (step_in factor)) }
         requires few { length self.old.steps < 2000000 }
-        ensures accepts { OnOk result (Accepts (standing_of self.old) (step_in factor) (standing_of self.new)) }
-        ensures stops { IfErr result (MayStop (Applies (standing_of self.old) (step_in factor))) }
-        ensures in_force { IfErr result (NamesOrder (standing_of self.new).order) }
-        ensures refused { OnErr result (standing_of self.new ≡ in_order (standing_of self.old) (standing_of self.new).order) }
-        ensures order { Reorders (standing_of self.old) result (standing_of self.new).order }
-        ensures after_reclaim { is_due (standing_of self.old).rules.reclaim (length (standing_of self.old).steps) ≡ true → is_due (standing_of self.old).rules.sift (length (standing_of self.old).steps) ≡ false → OnOk result (HoldsOnly self.new.diagrams.store (InWork (standing_of self.old) (step_in factor))) }
+        ensures { Steps self.old (step_in factor) result self.new }
     {
         let accepted = self.accepted();
         self.steps.reserve(1)?;
-        let width = self.rules.width();
-        let schedule = schedule_of(&self.rules);
-        match multiply(
+        let s = sided(&factor, self.qubits);
+        accept(
             alloc,
             &mut self.diagrams,
             &mut self.quad,
-            &factor,
-            self.qubits,
-            width,
-            schedule,
+            &self.rules,
+            &s,
             accepted,
-        ) {
-            Ok(()) => {
-                self.steps.push_reserved(factor);
-                Ok(())
-            }
-            Err(QuadStop::Width) => Err(Stop::Width { gate: accepted + 1 }),
-            Err(QuadStop::Full { held }) => Err(Stop::Nodes {
-                gate: accepted + 1,
-                order: self.diagrams.store().order(),
-                held,
-            }),
-            Err(QuadStop::OutOfMemory) => Err(Stop::OutOfMemory),
-        }
+        )?;
+        self.steps.push_reserved(factor);
+        Ok(())
     }
 
     /// The coefficients of the entry in this row and column.

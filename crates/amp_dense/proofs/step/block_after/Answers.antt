@@ -1,4 +1,4 @@
-use Rattle.std.proofs.Common.{All, subst, ◌++◌, length-append, rules, ◌≡◌, ◌<◌, ◌≤◌, ◌^◌, ◌*◌, ◌+◌, ℕ, List, Bool, [], length, take, get_or, ap, sym, refl, ◌∙◌, arith}
+use Rattle.std.proofs.Common.{All, subst, ◌++◌, length-append, ◌≡◌, ◌<◌, ◌≤◌, ◌^◌, ◌*◌, ◌+◌, ℕ, List, Bool, [], length, take, get_or, ap, sym, refl, ◌∙◌, arith}
 use Rattle.std.proofs.Math.Path.{ap₂}
 use Rattle.std.proofs.Math.Pow.{pow_mono}
 use Rattle.std.proofs.Math.Seq.{take-length}

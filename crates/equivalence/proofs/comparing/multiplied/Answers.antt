@@ -25,7 +25,7 @@ steps-init c = record {
 pub multiply-requires-clause-within : goal.multiply-requires-clause-within
 multiply-requires-clause-within c =
     let goes = multiplied c.args.rules.now c.args.qubits (take c.steps._step (steps_of c.args.us.now c.args.vs.now)) (standing_of c.steps.matrix) c.steps.invariant.after in
-    subst (λ n. IsOn n c.next_turn-turn.result.gate) (sym goes.qubits) (c.next_turn-turn.ensures.on c.args.qubits c.requires.on_us c.requires.on_vs)
+    subst (λ n. IsOn n c.next_turn-turn.result.gate) (sym goes.input) (c.next_turn-turn.ensures.on c.args.qubits c.requires.on_us c.requires.on_vs)
 
 pub multiply-requires-clause-few : goal.multiply-requires-clause-few
 multiply-requires-clause-few c =
@@ -59,7 +59,7 @@ whole us vs t e = ap (λ k. take k (steps_of us vs)) (e ∙ sym (length-steps_of
 
 pub returns-clause-qubits : goal.returns-clause-qubits
 returns-clause-qubits c =
-    (multiplied c.args.rules.now c.args.qubits (take c.steps._step (steps_of c.args.us.now c.args.vs.now)) (standing_of c.steps.matrix) c.steps.invariant.after).qubits
+    (multiplied c.args.rules.now c.args.qubits (take c.steps._step (steps_of c.args.us.now c.args.vs.now)) (standing_of c.steps.matrix) c.steps.invariant.after).input
 
 pub returns-clause-comes : goal.returns-clause-comes
 returns-clause-comes c =

@@ -3,4 +3,4 @@ use Rattle.unitary_update.specs.Kept.{Standing}
 use Rattle.tests_matrices.proofs.unitary_tests.roomy.Goals as goal
 
 pub returns : goal.returns
-returns g c = ap (λ (s : Standing). s.qubits) c.in-Ok.ensures.begins
+returns g c = ap (λ (s : Standing). s.input) c.in-Ok.ensures.begins

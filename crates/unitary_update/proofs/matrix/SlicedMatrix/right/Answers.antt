@@ -1,34 +1,12 @@
-use Rattle.std.proofs.Common.{◌≡◌, ◌∙◌, sym, subst}
-use Rattle.std.specs.Prelude.{IfErr, OnOk}
-use Rattle.std.proofs.Math.Path.{ap₂}
+use Rattle.std.proofs.Common.{sym, subst}
 use Rattle.gate_set.specs.declared.gate.Gate.{Gate}
 use Rattle.gate_set.specs.Shape.{IsOn}
-use Rattle.amp_dense.specs.Standing.{MayStop}
 use Rattle.comparison.specs.Products.Step.{right}
-use Rattle.node_reclaim.specs.Reclaims.{HoldsOnly}
-use Rattle.unitary_update.specs.Kept.{standing_of, Accepts, Applies, InWork}
+use Rattle.unitary_update.specs.Kept.{Steps}
 use Rattle.unitary_update.proofs.matrix.SlicedMatrix.right.Goals as goal
 
-pub accept-requires-clause-within : goal.accept-requires-clause-within
-accept-requires-clause-within c =
-    let g : Gate = c.args.gate.now in
-    let same : c.copied-factor.result ≡ g = c.copied-factor.ensures.value in
-    subst (λ (p : Gate). IsOn c.args.self.now.qubits p) (sym same) c.requires.within
+pub multiply-requires-clause-within : goal.multiply-requires-clause-within
+multiply-requires-clause-within c = subst (λ (g : Gate). IsOn c.args.self.now.qubits g) (sym c.copied.ensures.value) c.requires.within
 
-pub returns-clause-accepts : goal.returns-clause-accepts
-returns-clause-accepts c =
-    let g : Gate = c.args.gate.now in
-    let same : c.copied-factor.result ≡ g = c.copied-factor.ensures.value in
-    subst (λ (p : Gate). OnOk c.accept.result (Accepts (standing_of c.args.self.now) (right p) (standing_of c.accept.new.self))) same c.accept.ensures.accepts
-
-pub returns-clause-stops : goal.returns-clause-stops
-returns-clause-stops c =
-    let g : Gate = c.args.gate.now in
-    let same : c.copied-factor.result ≡ g = c.copied-factor.ensures.value in
-    subst (λ (p : Gate). IfErr c.accept.result (MayStop (Applies (standing_of c.args.self.now) (right p)))) same c.accept.ensures.stops
-
-pub returns-clause-after_reclaim : goal.returns-clause-after_reclaim
-returns-clause-after_reclaim c due still =
-    let g : Gate = c.args.gate.now in
-    let same : c.copied-factor.result ≡ g = c.copied-factor.ensures.value in
-    subst (λ (p : Gate). OnOk c.accept.result (HoldsOnly c.accept.new.self.diagrams.store (InWork (standing_of c.args.self.now) (right p)))) same (c.accept.ensures.after_reclaim due still)
+pub returns : goal.returns
+returns c = subst (λ (g : Gate). Steps c.args.self.now (right g) c.multiply.result c.multiply.new.self) c.copied.ensures.value c.multiply.ensures

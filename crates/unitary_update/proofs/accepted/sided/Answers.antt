@@ -1,5 +1,5 @@
 use Rattle.unitary_update.proofs.MatrixLemmas.{rows_below, columns_below, sided_left, sided_right}
-use Rattle.unitary_update.proofs.multiplying.sided.Goals as goal
+use Rattle.unitary_update.proofs.accepted.sided.Goals as goal
 
 pub step_of-requires-clause-below : goal.step_of-requires-clause-below
 step_of-requires-clause-below c = rows_below c.args.qubits c.args.factor.now _ c.in-Left.is c.requires.on
