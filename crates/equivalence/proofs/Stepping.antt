@@ -1,6 +1,5 @@
 -- The matrix after the steps so far, one more step, and all of them.
 use Rattle.std.proofs.Common.{◌≡◌, ℕ, ◌+◌, ◌*◌, ◌<◌, ◌≤◌, refl, sym, ◌∙◌, ap, subst, List, ◌∷◌, All, length, take, drop, Result, Ok, Err, arith}
-use Rattle.std.proofs.Math.Path.{ap₂}
 use Rattle.std.proofs.lemmas.List.{length-take-le}
 use Rattle.ring_omega.specs.Ring.{times_power, root_of_two}
 use Rattle.gate_set.specs.declared.gate.Gate.{Gate}
@@ -88,15 +87,13 @@ said n us vs d q v on_us on_vs shown h =
     (SameValues-sym n (matrix_in d q) q.exponent (compared us vs) (exponent (comparison us vs)) (shown_values n us vs d q on_us on_vs shown)) h
 
 -- what is said of the parts of a matrix after all steps
-pub concluded : (rules : Settings) (n k : ℕ) (us vs xs ys : List Gate) (m : State) (d : StoreAndCache) (q : SliceQuad) (v : Verdict) → All (IsOn n) us → All (IsOn n) vs → k ≡ n → xs ≡ us → ys ≡ vs
-    → Multiplies rules k (steps_of xs ys) (Ok (standing_of m)) → d ≡ m.diagrams → q ≡ m.quad → ShowsMatrix m.qubits m.diagrams.store m.quad (work_matrix m.qubits m.steps)
-    → IsVerdict k (matrix_in d.store q) q.exponent v → IsVerdict n (compared us vs) (exponent (comparison us vs)) v
-concluded rules n k us vs xs ys m d q v on_us on_vs ek ex ey came ed eq shown h =
-    let goes = multiplied rules k (steps_of xs ys) (standing_of m) came in
-    let steps : m.steps ≡ steps_of us vs = goes.accepted ∙ ap₂ steps_of ex ey in
+pub concluded : (rules : Settings) (n : ℕ) (us vs : List Gate) (m : State) (d : StoreAndCache) (q : SliceQuad) (v : Verdict) → All (IsOn n) us → All (IsOn n) vs
+    → Multiplies rules n (steps_of us vs) (Ok (standing_of m)) → d ≡ m.diagrams → q ≡ m.quad → ShowsMatrix m.qubits m.diagrams.store m.quad (work_matrix m.qubits m.steps)
+    → IsVerdict n (matrix_in d.store q) q.exponent v → IsVerdict n (compared us vs) (exponent (comparison us vs)) v
+concluded rules n us vs m d q v on_us on_vs came ed eq shown h =
+    let goes = multiplied rules n (steps_of us vs) (standing_of m) came in
     let whole : ShowsMatrix n m.diagrams.store m.quad (work_matrix n (steps_of us vs)) =
-    subst (λ l. ShowsMatrix n m.diagrams.store m.quad (work_matrix n l)) steps (subst (λ i. ShowsMatrix i m.diagrams.store m.quad (work_matrix i m.steps)) (goes.input ∙ ek) shown) in
+    subst (λ l. ShowsMatrix n m.diagrams.store m.quad (work_matrix n l)) goes.accepted (subst (λ i. ShowsMatrix i m.diagrams.store m.quad (work_matrix i m.steps)) goes.input shown) in
     let here : IsVerdict n (matrix_in m.diagrams.store m.quad) m.quad.exponent v =
-    subst (λ (s : SliceQuad). IsVerdict n (matrix_in m.diagrams.store s) s.exponent v) eq
-    (subst (λ (s : StoreAndCache). IsVerdict n (matrix_in s.store q) q.exponent v) ed (subst (λ i. IsVerdict i (matrix_in d.store q) q.exponent v) ek h)) in
+    subst (λ (s : SliceQuad). IsVerdict n (matrix_in m.diagrams.store s) s.exponent v) eq (subst (λ (s : StoreAndCache). IsVerdict n (matrix_in s.store q) q.exponent v) ed h) in
     said n us vs m.diagrams.store m.quad v on_us on_vs whole here

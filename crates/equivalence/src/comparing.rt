@@ -1,5 +1,6 @@
 //! The comparison of two circuits, step by step.
 ghost use Rattle.std.specs.Prelude.{◌≡◌, ◌<◌, ◌≤◌, length, All, Ok, IfOk, OnOk, IfErr, OnErr};
+ghost use Rattle.gate_set.specs.Circuits.{IsCircuit};
 ghost use Rattle.gate_set.specs.Shape.{IsOn};
 ghost use Rattle.circuit_model.specs.Product.{exponent};
 ghost use Rattle.amp_dense.specs.Chains.{MayStop};
@@ -30,17 +31,32 @@ pub fn compare(alloc: Global, u: &Circuit, v: &Circuit, rules: &Rules) -> Result
     ensures comes { OnOk result ((m : Standing) × Multiplies rules.now u.now.qubits (steps_of u.now.gates v.now.gates) (Ok m)) }
     ensures stop { IfErr result (MayStop (Multiplies rules.now u.now.qubits (steps_of u.now.gates v.now.gates))) }
 {
-    let qubits = u.qubits();
-    let us = u.gates();
-    let vs = v.gates();
-    let matrix = multiplied(alloc, qubits, us, vs, rules)?;
+    let matrix = multiplied(alloc, u, v, rules)?;
     let (diagrams, quad) = matrix.parts();
-    let verdict = scalar_of(diagrams, quad, qubits)?;
+    let verdict = scalar_of(diagrams, quad, u.qubits())?;
     Ok(verdict)
 }
 
+/// The matrix U·V† of two circuits on the same number of qubits, at most 64, after all steps of their comparison. Its stops are those of `compare`.
+pub fn multiplied(
+    alloc: Global,
+    u: &Circuit,
+    v: &Circuit,
+    rules: &Rules,
+) -> Result<SlicedMatrix, Stop>
+    requires same { u.now.qubits ≡ v.now.qubits }
+    requires small { u.now.qubits ≤ 64 }
+    ensures first { IsCircuit u.now }
+    ensures second { IsCircuit v.now }
+    ensures qubits { IfOk result (λ m. m.qubits ≡ u.now.qubits) }
+    ensures comes { IfOk result (λ m. Multiplies rules.now u.now.qubits (steps_of u.now.gates v.now.gates) (Ok (standing_of m))) }
+    ensures stop { IfErr result (MayStop (Multiplies rules.now u.now.qubits (steps_of u.now.gates v.now.gates))) }
+{
+    stepped(alloc, u.qubits(), u.gates(), v.gates(), rules)
+}
+
 /// The matrix after all steps of the comparison of two lists of gates.
-fn multiplied(
+fn stepped(
     alloc: Global,
     qubits: u8,
     us: &[Gate],

@@ -9,6 +9,6 @@ mod positions;
 mod verdict;
 
 pub use amp_printer::Verdict;
-pub use comparing::compare;
+pub use comparing::{compare, multiplied};
 pub use laws::enough_nodes;
 pub use verdict::scalar_of;

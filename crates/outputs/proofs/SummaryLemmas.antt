@@ -1,5 +1,5 @@
 -- The first and the last of the basis states that a walk shows, and the pieces of a summary.
-use Rattle.std.proofs.Common.{◌≡◌, ℕ, ◌+◌, ◌^◌, ◌<◌, refl, sym, ◌∙◌, ap, Bool, true, false, not, List, [], ◌∷◌, ◌++◌, length, get_or, take, drop, arith, append-nil, codes, Option, Some, None, IfSome, IfNone, subst}
+use Rattle.std.proofs.Common.{◌≡◌, ℕ, ◌+◌, ◌-◌, ◌^◌, ◌<◌, refl, sym, ◌∙◌, ap, Bool, true, false, not, List, [], ◌∷◌, ◌++◌, length, slice_get, length-append, get_or, take, drop, arith, append-nil, codes, Option, Some, None, IfSome, IfNone, subst}
 use Rattle.std.proofs.Math.Seq.{take-length}
 use Rattle.std.specs.Option.{ForSome}
 use Rattle.std.specs.List.{filter}
@@ -11,7 +11,7 @@ use Rattle.circuit_model.specs.Working.{Scaled}
 use Rattle.amp_printer.specs.declared.counted.Counted.TheVariants.{Qubits, Gates, Exponent, States}
 use Rattle.amp_printer.specs.Texts.{count_line}
 use Rattle.outputs.specs.Listing.{number_listed, has_no_entry, entry_line}
-use Rattle.outputs.specs.Summary.{first_of, last_of, shown, labelled, summary_output}
+use Rattle.outputs.specs.Summary.{shown, labelled, summary_output}
 use Rattle.amp_dense.specs.Nonzero.{NoneAfter, IsLastNonzero}
 use Rattle.outputs.proofs.FoundLemmas.{nonzero_test, found_state}
 use Rattle.outputs.proofs.WalkLemmas.{place_after, place_next, place_below, IsShown, IsFound, found_place, found_shown}
@@ -22,10 +22,16 @@ one_kept p x e = rw e refl
 one_dropped : (p : List Bool → Bool) (x : List Bool) → p x ≡ false → filter p (x ∷ []) ≡ []
 one_dropped p x e = rw e refl
 
+-- the last of a list, if there is one
+abbrev last_of : List (List Bool) → Option (List Bool)
+last_of xs = slice_get xs (length xs - 1)
+
+at_end : (xs : List (List Bool)) (x : List Bool) → slice_get (xs ++ x ∷ []) (length xs) ≡ Some x
+at_end [] x = refl
+at_end (y ∷ ys) x = at_end ys x
+
 last_one : (xs : List (List Bool)) (x : List Bool) → last_of (xs ++ x ∷ []) ≡ Some x
-last_one [] x = refl
-last_one (y ∷ []) x = refl
-last_one (y ∷ z ∷ zs) x = last_one (z ∷ zs) x
+last_one xs x = let end : length (xs ++ x ∷ []) - 1 ≡ length xs = omega (arith, length-append xs (x ∷ [])) in ap (slice_get (xs ++ x ∷ [])) end ∙ at_end xs x
 
 module _ (n : ℕ) (w : Scaled) where
   -- the basis states before a place whose entries aren't zero
@@ -70,13 +76,13 @@ module _ (n : ℕ) (w : Scaled) where
       )
 
   -- the first that is found is the first of all
-  pub first_found : (next : Option (List Bool)) → IsFound n (has_no_entry w) None next → next ≡ first_of (shown n w)
-  first_found None f = ap first_of (sym shown_none ∙ found_before None None f ∙ shown_all)
+  pub first_found : (next : Option (List Bool)) → IsFound n (has_no_entry w) None next → next ≡ slice_get (shown n w) 0
+  first_found None f = ap (λ l. slice_get l 0) (sym shown_none ∙ found_before None None f ∙ shown_all)
   first_found (Some x) f =
       let rest = shown_front (place_of x + 1) in
       let here : IsShown n (has_no_entry w) x = found_shown n (has_no_entry w) None (Some x) f x refl in
       let start : shown_before (place_of x) ≡ [] = sym (found_before None (Some x) f) ∙ shown_none in
-      sym (ap first_of (rest.1 ∙ ap (λ l. l ++ rest.0) (shown_one x here ∙ ap (λ l. l ++ x ∷ []) start)))
+      sym (ap (λ l. slice_get l 0) (rest.1 ∙ ap (λ l. l ++ rest.0) (shown_one x here ∙ ap (λ l. l ++ x ∷ []) start)))
 
   -- before the first there is none
   pub none_found : (next : Option (List Bool)) → IsFound n (has_no_entry w) None next → None ≡ last_of (shown_before (place_next n next))
@@ -113,7 +119,7 @@ unlabelled label t w o is = sym (append-nil t) ∙ ap (λ p. t ++ labelled label
 
 -- the six pieces
 pub summary_wrote : (n count k states : ℕ) (w : Scaled) (first last : Option (List Bool)) (t1 t2 t3 t4 t5 t6 : List ℕ) → k ≡ w.exponent → states ≡ number_listed n (has_no_entry w)
-    → first ≡ first_of (shown n w) → last ≡ last_of (shown n w)
+    → first ≡ slice_get (shown n w) 0 → last ≡ last_of (shown n w)
     → t1 ≡ [] ++ count_line Qubits n → t2 ≡ t1 ++ count_line Gates count → t3 ≡ t2 ++ count_line Exponent k → t4 ≡ t3 ++ count_line States states
     → t5 ≡ t4 ++ labelled (codes "first ") w first → t6 ≡ t5 ++ labelled (codes "last ") w last → t6 ≡ summary_output n count w
 unfolding summary_output
@@ -121,7 +127,7 @@ summary_wrote n count k states w first last t1 t2 t3 t4 t5 t6 roots counted begi
     e6 ∙ ap (λ o. t5 ++ labelled (codes "last ") w o) ends
     ∙ ap (λ t. t ++ labelled (codes "last ") w (last_of (shown n w)))
     (e5 ∙ ap (λ o. t4 ++ labelled (codes "first ") w o) begins
-    ∙ ap (λ t. t ++ labelled (codes "first ") w (first_of (shown n w)))
+    ∙ ap (λ t. t ++ labelled (codes "first ") w (slice_get (shown n w) 0))
     (e4 ∙ ap (λ m. t3 ++ count_line States m) counted
     ∙ ap (λ t. t ++ count_line States (number_listed n (has_no_entry w)))
     (e3 ∙ ap (λ m. t2 ++ count_line Exponent m) roots ∙ ap (λ t. t ++ count_line Exponent w.exponent) (e2 ∙ ap (λ t. t ++ count_line Gates count) e1))))

@@ -1,21 +1,10 @@
 -- The summary of a vector.
-use Rattle.std.specs.Prelude.{ℕ, Bool, not, List, [], ◌∷◌, ◌++◌, filter, codes, Option, Some, None}
+use Rattle.std.specs.Prelude.{ℕ, ◌-◌, Bool, not, List, [], ◌++◌, length, filter, slice_get, codes, Option, Some, None}
 use Rattle.bit_lists.specs.Lists.{all_lists}
 use Rattle.circuit_model.specs.Working.{Scaled}
 use Rattle.amp_printer.specs.declared.counted.Counted.TheVariants.{Qubits, Gates, Exponent, States}
 use Rattle.amp_printer.specs.Texts.{count_line}
 use Rattle.outputs.specs.Listing.{number_listed, has_no_entry, entry_line}
-
--- the first of a list, if there is one
-abbrev pub first_of : {X : Type 0} → List X → Option X
-first_of [] = None
-first_of (x ∷ xs) = Some x
-
--- the last of a list, if there is one
-abbrev pub last_of : {X : Type 0} → List X → Option X
-last_of [] = None
-last_of (x ∷ []) = Some x
-last_of (x ∷ y ∷ ys) = last_of (y ∷ ys)
 
 -- the basis states of n qubits whose amplitude isn't zero, in their order
 abbrev pub shown : ℕ → Scaled → List (List Bool)
@@ -30,4 +19,4 @@ labelled label w (Some x) = label ++ entry_line w x
 unfoldable pub summary_output : ℕ → ℕ → Scaled → List ℕ
 summary_output n count w =
     count_line Qubits n ++ count_line Gates count ++ count_line Exponent w.exponent ++ count_line States (number_listed n (has_no_entry w))
-    ++ labelled (codes "first ") w (first_of (shown n w)) ++ labelled (codes "last ") w (last_of (shown n w))
+    ++ labelled (codes "first ") w (slice_get (shown n w) 0) ++ labelled (codes "last ") w (slice_get (shown n w) (length (shown n w) - 1))

@@ -1,12 +1,12 @@
 //! The summary of a working vector.
-ghost use Rattle.std.specs.Prelude.{◌≡◌, ◌≤◌, ◌++◌, length, IfOk, OnOk, OnErr, IsErrOf};
+ghost use Rattle.std.specs.Prelude.{◌≡◌, ◌≤◌, ◌-◌, ◌++◌, length, slice_get, IfOk, OnOk, OnErr, IsErrOf};
 ghost use Rattle.std.specs.Option.{ForSome};
 ghost use Rattle.outside.specs.Outside.{Rose};
 ghost use Rattle.outside.specs.Bytes.{Added, AddedSome};
 ghost use Rattle.amp_dense.specs.Standing.{vector};
 ghost use Rattle.amp_printer.specs.Texts.{count_line};
 ghost use Rattle.outputs.specs.Listing.{number_listed, has_no_entry};
-ghost use Rattle.outputs.specs.Summary.{first_of, last_of, shown, labelled, summary_output};
+ghost use Rattle.outputs.specs.Summary.{shown, labelled, summary_output};
 
 use crate::output::SendStop;
 use amp_dense::Amplitudes;
@@ -65,8 +65,8 @@ fn summary<A: Amplitudes>(alloc: Global, qubits: u8, state: &A) -> Result<Vec<u8
 fn survey<A: Amplitudes>(alloc: Global, qubits: u8, state: &A) -> Result<Shown, OutOfMemory>
     requires size { length (A.standing state.now).input ≡ qubits }
     ensures states { IfOk result (λ s. s.states ≡ number_listed qubits (has_no_entry (vector (A.standing state.now)))) }
-    ensures first { IfOk result (λ s. s.first ≡ first_of (shown qubits (vector (A.standing state.now)))) }
-    ensures last { IfOk result (λ s. s.last ≡ last_of (shown qubits (vector (A.standing state.now)))) }
+    ensures first { IfOk result (λ s. s.first ≡ slice_get (shown qubits (vector (A.standing state.now))) 0) }
+    ensures last { IfOk result (λ s. s.last ≡ slice_get (shown qubits (vector (A.standing state.now))) (length (shown qubits (vector (A.standing state.now))) - 1)) }
     ensures first_long { IfOk result (λ s. ForSome s.first (λ x. length x ≡ qubits)) }
     ensures last_long { IfOk result (λ s. ForSome s.last (λ x. length x ≡ qubits)) }
 {

@@ -1,5 +1,5 @@
 -- Where each gate, or each step, has nodes, none stops for want of them; and each has where as many are allowed as are always enough.
-use Rattle.std.proofs.Common.{◌≡◌, inl, inr, ℕ, ◌+◌, ◌*◌, ◌^◌, ◌<◌, ◌≤◌, Bool, List, [], ◌∷◌, length, Result, Ok, Err, All, refl, sym, ◌∙◌, subst, arith}
+use Rattle.std.proofs.Common.{◌≡◌, inl, inr, ℕ, ◌+◌, ◌*◌, ◌<◌, ◌≤◌, Bool, List, [], ◌∷◌, length, Err, All, refl, sym, ◌∙◌, subst, arith}
 use Rattle.std.specs.List.{range_with_len}
 use Rattle.std.proofs.lemmas.Bool.{cases_lt}
 use Rattle.std.proofs.lemmas.List.Elements.{All-nil, All-head, All-tail}
@@ -10,7 +10,7 @@ use Rattle.gate_set.specs.declared.gate.Gate.{Gate}
 use Rattle.gate_set.specs.Shape.{IsOn}
 use Rattle.comparison.specs.Products.{Step, RawStepFits, gate_of}
 use Rattle.comparison.proofs.Undo.{heads}
-use Rattle.phases.specs.Phases.{Phase, GoesOn, ◌>>=◌, HandsOn, StopsWhere, Told, Through}
+use Rattle.phases.specs.Phases.{Through}
 use Rattle.amp_dense.specs.Rules.{Settings}
 use Rattle.amp_dense.specs.Standing.{Standing, FitsAfter, begun, in_order, with_gate, Accepts, Applies, Walks}
 use Rattle.amp_dense.specs.Chains.{StandingOf, AppliesWhere}
@@ -23,38 +23,9 @@ use Rattle.state_update.proofs.Enough.{enough}
 use Rattle.unitary_update.specs.Kept as matrix
 use Rattle.unitary_update.proofs.Enough as matrix_nodes
 use Rattle.unitary_update.proofs.Chains.{only_width}
-use Rattle.causes.specs.declared.cause.Cause.{Cause}
-use Rattle.causes.specs.declared.cause.Cause.TheVariants.{Nodes, OutOfMemory}
 use Rattle.causes.specs.Stops.{cause_of}
-use Rattle.run_laws.specs.Laws.{EachHas, HasNodes, GatesHaveNodes, StepsHaveNodes}
-
--- ---- phases whose stops are all of one sort
-abbrev pub StopsBy : {X C : Type 0} → (C → Type 0) → Phase X C → Type 0
-StopsBy {X} {C} S phase = (cause : C) → phase (Err cause) → S cause
-
--- what is handed on is no stop
-pub by_handing_on : {X C : Type 0} (S : C → Type 0) (x : X) → StopsBy S (HandsOn {C = C} x)
-by_handing_on S x cause e = absurd (cc)
-
-pub by_test : {C : Type 0} (S : C → Type 0) (P : Type 0) (own : C) → S own → StopsBy S (StopsWhere P own)
-by_test S P own s cause h = subst S (sym h.1) s
-
-pub by_telling : {X D C : Type 0} (S : C → Type 0) (f : D → C) (phase : Phase X D) → StopsBy (λ d. S (f d)) phase → StopsBy S (Told f phase)
-by_telling S f phase h cause t = subst S (sym t.2) (h t.0 t.1)
-
--- a phase behind a phase, which knows that the first one handed on what it goes on with
-pub by_both : {X Y C : Type 0} (S : C → Type 0) (first : Phase X C) (next : X → Phase Y C) → StopsBy S first → ((x : X) → first (Ok x) → StopsBy S (next x)) → StopsBy S (first >>= next)
-by_both {X} {Y} {C} S first next f n cause h = by h.0 h.1 h.2
-  where
-    by : (at : Result X C) → first at → GoesOn next at (Err cause) → S cause
-    by (Ok x) p goes = n x p cause goes
-    by (Err stop) p e = let same : stop ≡ cause = cc in subst S same (f stop p)
-
--- items in a row that each have what they need
-pub each_stops : {X G C : Type 0} (S : C → Type 0) (Needs : X → G → Type 0) (phase : X → G → Phase X C) → ((x : X) (g : G) → Needs x g → StopsBy S (phase x g))
-    → (x : X) (gs : List G) → EachHas Needs phase x gs → StopsBy S (Through phase x gs)
-each_stops S Needs phase stops_by x [] has = by_handing_on S x
-each_stops S Needs phase stops_by x (g ∷ gs) has = by_both S (phase x g) (λ y. Through phase y gs) (stops_by x g has.0) (λ y a. each_stops S Needs phase stops_by y gs (has.1 y a))
+use Rattle.run_laws.specs.Laws.{AreEnough, EachHas, HasNodes, GatesHaveNodes, StepsHaveNodes}
+use Rattle.run_laws.proofs.Lawful.{StopsBy, IsOther, by_both, each_stops}
 
 not_both : (m n : ℕ) → m < n → n ≤ m → ⊥
 not_both m n less more = omega (arith, less, more)
@@ -63,12 +34,7 @@ fewer : (m n : ℕ) → ¬ (n ≤ m) → m < n
 fewer m n none = elim (cases_lt m n) [ inl less ↦ less | inr more ↦ absurd (none more) ]
 
 -- ---- gates
--- any cause but a want of nodes or of memory, of which the second is none of a phase
-abbrev pub IsOther : Cause → Type 0
-IsOther (Nodes step order held) = ⊥
-IsOther OutOfMemory = ⊥
-IsOther cause = Unit {0}
-
+-- a stop that is no want of nodes, nor of memory
 abbrev pub IsOtherStop : Stop → Type 0
 IsOtherStop stop = IsOther (cause_of stop)
 
@@ -89,11 +55,11 @@ multiplies_stops rules n steps room has =
 -- ---- enough nodes
 -- what each gate finds: rules with enough nodes, and an order of as many variables as qubits
 record IsRoomy (s : Standing) : Type 0 where
-  nodes : (64 * (s.rules.width + 2) + 130) * 2 ^ length s.input ≤ s.rules.nodes
+  nodes : AreEnough s.rules (length s.input)
   order : IsOrder s.order
   variables : length s.order ≡ length s.input
 
-roomy_begun : (input : List Bool) (rules : Settings) → (64 * (rules.width + 2) + 130) * 2 ^ length input ≤ rules.nodes → IsRoomy (begun input rules)
+roomy_begun : (input : List Bool) (rules : Settings) → AreEnough rules (length input) → IsRoomy (begun input rules)
 roomy_begun input rules limit = record { nodes = limit; order = natural_is_order (length input); variables = length-range_with_len 0 (length input) }
 
 roomy_next : (s : Standing) (g : Gate) (t : Standing) → IsRoomy s → Accepts sliced_policy s g t → IsRoomy t
@@ -116,14 +82,14 @@ gates_from s (g ∷ gates) room on =
     let both = heads (length s.input) g gates on in
     (gate_finds s g room both.0, λ t a. gates_from t gates (roomy_next s g t room a) (subst (λ (u : Standing). All (IsOn (length u.input)) gates) (sym a.same) both.1))
 
-pub gates_find : (rules : Settings) (input : List Bool) (gates : List Gate) → All (IsOn (length input)) gates → (64 * (rules.width + 2) + 130) * 2 ^ length input ≤ rules.nodes → GatesHaveNodes rules input gates
+pub gates_find : (rules : Settings) (input : List Bool) (gates : List Gate) → All (IsOn (length input)) gates → AreEnough rules (length input) → GatesHaveNodes rules input gates
 gates_find rules input gates on limit = gates_from (begun input rules) gates (roomy_begun input rules limit) on
 
 -- the same of a step
 record HasRoom (s : matrix.Standing) : Type 0 where
   order : IsOrder s.order
   variables : length s.order ≡ 2 * s.input
-  nodes : (64 * (s.rules.width + 2) + 130) * 2 ^ (2 * s.input) ≤ s.rules.nodes
+  nodes : AreEnough s.rules (2 * s.input)
 
 room_next : (s : matrix.Standing) (t : Step) (r : matrix.Standing) → HasRoom s → matrix.Accepts s t r → HasRoom r
 room_next s t r room a =
@@ -143,7 +109,7 @@ steps_from s (t ∷ steps) room on =
     (step_finds s t room here, λ r a. steps_from r steps (room_next s t r room a) (subst (λ (v : matrix.Standing). All (λ u. IsOn v.input (gate_of u)) steps) (sym a.same) rest))
 
 -- the identity has its nodes too
-module _ (rules : Settings) (n : ℕ) (limit : (64 * (rules.width + 2) + 130) * 2 ^ (2 * n) ≤ rules.nodes) where
+module _ (rules : Settings) (n : ℕ) (limit : AreEnough rules (2 * n)) where
   identity_finds : 3 * n ≤ rules.nodes
   identity_finds = elim (cases_lt rules.nodes (3 * n)) [ inl few ↦ absurd (lacking few) | inr room ↦ room ]
     where
@@ -158,6 +124,6 @@ module _ (rules : Settings) (n : ℕ) (limit : (64 * (rules.width + 2) + 130) * 
   all_find : (steps : List Step) → All (λ t. IsOn n (gate_of t)) steps → (3 * n ≤ rules.nodes) × StepsHaveNodes rules n steps
   all_find steps on = (identity_finds, steps_from (matrix.begun n rules) steps begins on)
 
-pub steps_find : (rules : Settings) (n : ℕ) (steps : List Step) → All (λ t. IsOn n (gate_of t)) steps → (64 * (rules.width + 2) + 130) * 2 ^ (2 * n) ≤ rules.nodes
+pub steps_find : (rules : Settings) (n : ℕ) (steps : List Step) → All (λ t. IsOn n (gate_of t)) steps → AreEnough rules (2 * n)
     → (3 * n ≤ rules.nodes) × StepsHaveNodes rules n steps
 steps_find rules n steps on limit = all_find rules n limit steps on

@@ -1,5 +1,5 @@
 -- Gates in a row on integers over diagrams come to one end, and to some end.
-use Rattle.std.proofs.Common.{◌≡◌, ◌≤◌, ◌-◌, List, Bool, All, length, sym, subst, arith}
+use Rattle.std.proofs.Common.{◌≡◌, ◌≤◌, ◌+◌, ◌-◌, ℕ, List, Bool, All, length, sym, subst, arith}
 use Rattle.bit_lists.specs.Orders.{IsOrder}
 use Rattle.bit_lists.proofs.Variables.{natural_is_order}
 use Rattle.gate_set.specs.declared.gate.Gate.{Gate}
@@ -18,15 +18,17 @@ use Rattle.step_upkeep.proofs.Orders.{one_next_order, is_next_order}
 use Rattle.step_upkeep.proofs.Products.{some_end}
 use Rattle.state_update.specs.Kept.{sliced_policy, vector_chain}
 use Rattle.state_update.proofs.Ends.{accepted_or_refused, fits_begun, fits_next}
+use Rattle.causes.specs.declared.cause.Cause.{Cause}
+use Rattle.causes.specs.declared.cause.Cause.TheVariants as causes
 use Rattle.causes.specs.Stops.{cause_of}
 use Rattle.sliq_engine.specs.Steps.{Simulates}
-use Rattle.run_laws.specs.Laws.{IsNoFault, IsSure}
+use Rattle.run_laws.specs.Laws.{IsNoFault}
 
--- gates come to one end
-pub one_simulates : (rules : Settings) (input : List Bool) (gates : List Gate) → HasOneEnd IsSure (Simulates sliced_policy rules input gates)
-one_simulates rules input gates =
-    one_told IsSure cause_of (Walks sliced_policy (begun input rules) gates)
-    (one_walks sliced_policy (λ stop. IsSure (cause_of stop)) (one_next_order vector_chain) (λ s g number order held is lacks sure. let first : number ≡ 0 = sure in absurd (omega (arith, is, first))) (begun input rules) gates)
+-- gates come to one end, where no want of nodes at a gate is sure
+pub one_simulates : (Sure : Cause → Type 0) → ((k : ℕ) (order : List ℕ) (held : ℕ) → Sure (causes.Nodes (k + 1) order held) → ⊥) → (rules : Settings) (input : List Bool) (gates : List Gate) → HasOneEnd Sure (Simulates sliced_policy rules input gates)
+one_simulates Sure late rules input gates =
+    one_told Sure cause_of (Walks sliced_policy (begun input rules) gates)
+    (one_walks sliced_policy (λ stop. Sure (cause_of stop)) (one_next_order vector_chain) (λ s g number order held is lacks sure. late (length s.gates) order held (subst (λ n. Sure (causes.Nodes n order held)) is sure)) (begun input rules) gates)
 
 -- the stops of gates are no faults
 stop_told : (stop : Stop) → IsNoFault (cause_of stop)

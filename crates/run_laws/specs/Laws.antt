@@ -1,5 +1,5 @@
 -- Words of the laws.
-use Rattle.std.specs.Prelude.{◌≡◌, ◌↔◌, ◌<◌, ◌≤◌, ℕ, Bool, List, [], ◌∷◌, map, length, Some, Result, Ok, Err}
+use Rattle.std.specs.Prelude.{◌≡◌, ◌↔◌, ◌<◌, ◌≤◌, ℕ, ◌+◌, ◌*◌, ◌^◌, Bool, List, [], ◌∷◌, map, length, get_or, Option, Some, None, Result, Ok, Err}
 use Rattle.std.specs.List.{AllByRecursion}
 use Rattle.ring_omega.specs.Lowest.{lowest_form}
 use Rattle.gate_set.specs.declared.gate.Gate.{Gate}
@@ -17,6 +17,10 @@ use Rattle.amp_dense.specs.Standing.{begun, Applies}
 use Rattle.step_upkeep.specs.Chains.{Chain, IsNextOrder, needed, work_of}
 use Rattle.state_update.specs.Kept.{sliced_policy, vector_chain}
 use Rattle.unitary_update.specs.Kept as matrix
+use Rattle.qasm_reader.specs.Reading.{ReadsAs, circuit}
+use Rattle.sliq_words.specs.declared.reading.Task.{Task}
+use Rattle.sliq_words.specs.declared.reading.Task.TheVariants as task
+use Rattle.sliq_words.specs.Asked.{Request, InRange}
 use Rattle.causes.specs.declared.cause.Cause.{Cause}
 use Rattle.causes.specs.declared.cause.Cause.TheVariants.{ReadFault, Nodes}
 use Rattle.sliq_engine.specs.Steps.{Output}
@@ -26,14 +30,29 @@ abbrev pub IsNoFault : Cause → Type 0
 IsNoFault ReadFault = ⊥
 IsNoFault _ = Unit {0}
 
--- the stops that words and texts decide; a want of nodes at a gate or a step, which may come or not, is none of them. That of the identity at the start of a comparison has the number 0
-abbrev pub IsSure : Cause → Type 0
-IsSure (Nodes step order held) = step ≡ 0
-IsSure cause = IsNoFault cause
+-- the stops that words and texts decide, of a task; a want of nodes at a gate or a step, which may come or not, is none of them. That of the identity at the start of a comparison has the number 0
+abbrev pub IsSure : Task → Cause → Type 0
+IsSure it (Nodes step order held) = step ≡ 0
+IsSure it cause = IsNoFault cause
+
+-- those of the task that words ask for
+abbrev pub IsSureOf : Option Request → Cause → Type 0
+IsSureOf (Some asked) = IsSure asked.task
+IsSureOf None = IsNoFault
 
 -- no end of this is a want of nodes
 abbrev pub NeverLacksNodes : Phase Output Cause → Type 0
 NeverLacksNodes phase = (step : ℕ) (order : List ℕ) (held : ℕ) → ¬ phase (Err (Nodes step order held))
+
+-- as many nodes are allowed as n variables need at most
+abbrev pub AreEnough : Settings → ℕ → Type 0
+AreEnough rules n = (64 * (rules.width + 2) + 130) * 2 ^ n ≤ rules.nodes
+
+-- as many as a task on these texts needs at most: `eq` has two variables for each qubit of its first text
+abbrev pub HasEnough : Task → Settings → List (List ℕ) → Type 0
+HasEnough (task.Demo qubits gates seed) rules texts = InRange (task.Demo qubits gates seed) × AreEnough rules qubits
+HasEnough task.Eq rules texts = (u : Circuit) → ReadsAs (get_or texts 0 []) 64 (circuit u) → AreEnough rules (2 * u.qubits)
+HasEnough _ rules texts = (c : Circuit) → ReadsAs (get_or texts 0 []) 64 (circuit c) → AreEnough rules c.qubits
 
 -- each item has what it needs, on what the items before it hand on
 abbrev pub EachHas : {X G C : Type 0} → (X → G → Type 0) → (X → G → Phase X C) → X → List G → Type 0

@@ -1,5 +1,5 @@
 //! Laws of the top call's definitions. Each call does nothing: its contract is the law.
-ghost use Rattle.std.specs.Prelude.{◌≡◌, ◌⊎◌, ◌↔◌, ◌≤◌, ◌∷◌, [], List, ℕ, ◌+◌, ◌*◌, ◌^◌, Bool, length, All, codes, Result, Ok, Err, Option, Some, IsSome};
+ghost use Rattle.std.specs.Prelude.{◌≡◌, ◌⊎◌, ◌↔◌, ◌≤◌, ◌∷◌, [], List, ℕ, ◌*◌, Bool, length, All, codes, Result, Ok, Err, Option, Some, IsSome};
 ghost use Rattle.gate_set.specs.declared.gate.Gate.{Gate};
 ghost use Rattle.gate_set.specs.Circuits.{Circuit};
 ghost use Rattle.gate_set.specs.Shape.{IsOn};
@@ -15,8 +15,9 @@ ghost use Rattle.demo_reads.specs.Drawn.{drawn_circuit};
 ghost use Rattle.outside.specs.Memory.{Shelved, text_of, memory};
 ghost use Rattle.phases.specs.Phases.{Agree, HasOneEnd, HasSomeEnd};
 ghost use Rattle.sliq_words.specs.Asked.{Request, asked_of};
+ghost use Rattle.sliq_words.specs.declared.reading.Task.{Task};
 ghost use Rattle.sliq_engine.specs.Comes.{CarriesOut, Comes};
-ghost use Rattle.run_laws.specs.Laws.{ComesTo, GatesHaveNodes, HasTexts, IsNoFault, IsSure, NeverLacksNodes, StepsHaveNodes, TellsFirst};
+ghost use Rattle.run_laws.specs.Laws.{AreEnough, ComesTo, GatesHaveNodes, HasEnough, HasTexts, IsNoFault, IsSure, IsSureOf, NeverLacksNodes, StepsHaveNodes, TellsFirst};
 ghost use Rattle.sliq_engine.specs.Steps.{Output, zeros};
 ghost use Rattle.sliq_engine.specs.Sim.{input_for, sim_output, Sims};
 ghost use Rattle.sliq_engine.specs.Prob.{IsHeavy, prob_output, Weighs};
@@ -29,7 +30,7 @@ use gate_set::Kind;
 /// Whatever is asked for, on whatever texts, comes to one output at most, or to one cause, but for a want of nodes at a gate or a step. One at step 0, before the
 /// first step of `eq`, comes exactly where three nodes a qubit are more than are allowed.
 pub fn one_end()
-    ensures { (asked : Request) (texts : List (List ℕ)) → HasOneEnd IsSure (CarriesOut asked.task asked.rules texts) }
+    ensures { (asked : Request) (texts : List (List ℕ)) → HasOneEnd (IsSure asked.task) (CarriesOut asked.task asked.rules texts) }
 {}
 
 /// And what words ask for, on whatever texts, comes to some output, or to some cause.
@@ -41,7 +42,7 @@ pub fn some_end()
 /// nodes at a gate or a step.
 pub fn one_run()
     ensures { (words : List (List ℕ)) (old new other : Shelved) → ((asked : Request) → asked_of words ≡ Some asked → AllByRecursion (λ name. IsSome (text_of old name)) asked.files)
-        → Agree IsSure (Comes memory words old new) (Comes memory words old other) }
+        → Agree (IsSureOf (asked_of words)) (Comes memory words old new) (Comes memory words old other) }
 {}
 
 /// Where a shelf in memory has texts for all files of the words, none too long, a run on it comes to what the command that is asked for comes to on these
@@ -57,13 +58,10 @@ pub fn run_on_texts()
 /// circuit on n qubits ends for want of nodes. `eq` wants as many for twice the qubits, since its diagrams have two variables for each. Each gate, or step, then
 /// has nodes, as `complete` asks.
 pub fn enough_nodes()
-    ensures sim { (rules : Settings) (bits : Option (List Bool)) (text : List ℕ) (c : Circuit) → ReadsAs text 64 (circuit c) → (64 * (rules.width + 2) + 130) * 2 ^ c.qubits ≤ rules.nodes → NeverLacksNodes (Sims bits rules text) }
-    ensures prob { (rules : Settings) (text : List ℕ) (c : Circuit) → ReadsAs text 64 (circuit c) → (64 * (rules.width + 2) + 130) * 2 ^ c.qubits ≤ rules.nodes → NeverLacksNodes (Weighs rules text) }
-    ensures demo { (rules : Settings) (qubits gates seed : ℕ) → 1 ≤ qubits → qubits ≤ 64 → gates ≤ 500000 → (64 * (rules.width + 2) + 130) * 2 ^ qubits ≤ rules.nodes → NeverLacksNodes (Demonstrates rules qubits gates seed) }
-    ensures eq { (rules : Settings) (one two : List ℕ) (u : Circuit) → ReadsAs one 64 (circuit u) → (64 * (rules.width + 2) + 130) * 2 ^ (2 * u.qubits) ≤ rules.nodes → NeverLacksNodes (Compares rules one two) }
-    ensures gates { (rules : Settings) (input : List Bool) (gates : List Gate) → All (IsOn (length input)) gates → (64 * (rules.width + 2) + 130) * 2 ^ length input ≤ rules.nodes
+    ensures never { (task : Task) (rules : Settings) (texts : List (List ℕ)) → HasEnough task rules texts → NeverLacksNodes (CarriesOut task rules texts) }
+    ensures gates { (rules : Settings) (input : List Bool) (gates : List Gate) → All (IsOn (length input)) gates → AreEnough rules (length input)
         → GatesHaveNodes rules input gates }
-    ensures steps { (rules : Settings) (n : ℕ) (steps : List Step) → All (λ t. IsOn n (gate_of t)) steps → (64 * (rules.width + 2) + 130) * 2 ^ (2 * n) ≤ rules.nodes
+    ensures steps { (rules : Settings) (n : ℕ) (steps : List Step) → All (λ t. IsOn n (gate_of t)) steps → AreEnough rules (2 * n)
         → (3 * n ≤ rules.nodes) × StepsHaveNodes rules n steps }
 {}
 

@@ -1,12 +1,12 @@
 -- The words of a run, parted into the command's name and the words after it.
-use Rattle.std.proofs.Common.{◌≡◌, ◌≢◌, ℕ, suc, ◌-◌, ◌≤◌, ◌==◌, Bool, true, false, cond, List, [], ◌∷◌, map, length, take, drop, get_or, Option, Some, None, Result, Ok, Err, option_and_then, refl, sym, ◌∙◌, ap, arith}
+use Rattle.std.proofs.Common.{◌≡◌, ◌≢◌, ℕ, suc, ◌-◌, ◌≤◌, ◌==◌, true, false, List, [], ◌∷◌, map, length, take, drop, get_or, Some, None, Result, Err, option_and_then, refl, sym, ◌∙◌, ap, arith}
 use Rattle.std.proofs.lemmas.Bool.{cond-true, cond-false, ne_eqb}
 use Rattle.std.proofs.Math.Seq.{take-length}
 use Rattle.clap.specs.Words.{Text, Row, Kinds}
 use Rattle.sliq_words.specs.declared.form.Form.{Form}
 use Rattle.sliq_words.specs.declared.reading.AskStop.{AskStop}
 use Rattle.sliq_words.specs.Forms.{form_of, faults, rows_for}
-use Rattle.sliq_words.specs.Asked.{Request, asked_of, request_in, asked_after}
+use Rattle.sliq_words.specs.Asked.{asked_of, request_in, asked_after}
 
 parted : {X : Type 0} (f : X → Text) (b : X) (rest : List X) (n : ℕ) → n ≡ length rest → map f (take n rest) ≡ map f rest
 parted f b rest n e = ap (λ k. map f (take k rest)) e ∙ ap (map f) (take-length rest)

@@ -1,43 +1,16 @@
 -- What clap finds, read as values.
-use Rattle.std.proofs.Common.{◌≡◌, ◌⊎◌, inl, inr, ℕ, ◌==◌, Bool, true, false, cond, codes, List, [], ◌∷◌, length, Option, Some, None, option_map, option_and_then, refl, sym, ◌∙◌, ap}
+use Rattle.std.proofs.Common.{◌≡◌, ℕ, Bool, codes, List, [], ◌∷◌, ◌++◌, Option, Some, None, option_map, option_and_then, refl, sym, ◌∙◌, ap}
 use Rattle.std.specs.Borrow.{Bor}
-use Rattle.std.specs.Str.{bytes_eq}
-use Rattle.std.proofs.lemmas.Bool.{false≢true, cond-true, cond-false}
 use Rattle.amp_dense.specs.Rules.{Settings}
-use Rattle.clap.specs.Words.{Row, Text, Kinds, first_of, first_value, rows_of}
+use Rattle.clap.specs.Words.{Row, Text, first_of, first_value, rows_of}
 use Rattle.clap.specs.declared.parser.matches.Found.{Found}
 use Rattle.clap.proofs.WalkLemmas.{first_value-rows}
 use Rattle.sliq_words.specs.declared.reading.Task.{Task}
-use Rattle.sliq_words.specs.declared.reading.Task.TheVariants as task
 use Rattle.sliq_words.specs.declared.form.Form.{Form}
-use Rattle.sliq_words.specs.declared.form.Form.TheVariants.{Sim, Eq, Prob, Demo}
-use Rattle.sliq_words.specs.Forms.{form_of, faults, rows_for}
+use Rattle.sliq_words.specs.declared.form.Word.{Word}
+use Rattle.sliq_words.specs.declared.form.Word.TheVariants.{File, Number}
 use Rattle.sliq_words.specs.Values.{number_in, bits_of}
-use Rattle.sliq_words.specs.Asked.{◌>>=◌, Request, request, settings, setting_of, number_word, rules_in, input_in, demo_in, task_in, file_in, pair_in, files_in, request_in}
-
--- the names of the commands
-abbrev is_name : Text → Text → Bool
-is_name w name = bytes_eq w name
-
-pub form_sim : (w : Text) → is_name w (codes "sim") ≡ true → Some Sim ≡ form_of w
-unfolding form_of
-form_sim w p = rw p refl
-
-pub form_eq : (w : Text) → is_name w (codes "sim") ≡ false → is_name w (codes "eq") ≡ true → Some Eq ≡ form_of w
-unfolding form_of
-form_eq w p q = rw (p, q) refl
-
-pub form_prob : (w : Text) → is_name w (codes "sim") ≡ false → is_name w (codes "eq") ≡ false → is_name w (codes "prob") ≡ true → Some Prob ≡ form_of w
-unfolding form_of
-form_prob w p q r = rw (p, q, r) refl
-
-pub form_demo : (w : Text) → is_name w (codes "sim") ≡ false → is_name w (codes "eq") ≡ false → is_name w (codes "prob") ≡ false → is_name w (codes "demo") ≡ true → Some Demo ≡ form_of w
-unfolding form_of
-form_demo w p q r s = rw (p, q, r, s) refl
-
-pub form_none : (w : Text) → is_name w (codes "sim") ≡ false → is_name w (codes "eq") ≡ false → is_name w (codes "prob") ≡ false → is_name w (codes "demo") ≡ false → None ≡ form_of w
-unfolding form_of
-form_none w p q r s = rw (p, q, r, s) refl
+use Rattle.sliq_words.specs.Asked.{◌>>=◌, request, settings, setting_of, rules_in, input_in, in_turn, number_at, filled, task_in, names_at, files_in, request_in}
 
 -- the value of a word or an option
 pub found_text : (f : Found) (id : Text) (o : Option (Bor Text)) (s : Bor Text) → o ≡ Some s → option_map (λ s. s.now) o ≡ first_value f id → first_of id (rows_of f) ≡ Some s.now
@@ -54,11 +27,11 @@ pub setting_none : (id : Text) (least most usual : ℕ) (rows : List Row) → fi
 unfolding setting_of
 setting_none id least most usual rows e = rw e refl
 
-pub word_some : (id : Text) (least most : ℕ) (rows : List Row) (t : Text) → first_of id rows ≡ Some t → number_in least most t ≡ number_word id least most rows
-word_some id least most rows t e = rw e refl
+pub number_some : (word : Option Word) (id : Text) (least most : ℕ) (rows : List Row) (t : Text) → word ≡ Some (Number least most) → first_of id rows ≡ Some t → number_in least most t ≡ number_at word id rows
+number_some word id least most rows t is e = rw (is, e) refl
 
-pub word_none : (id : Text) (least most : ℕ) (rows : List Row) → first_of id rows ≡ None → None ≡ number_word id least most rows
-word_none id least most rows e = rw e refl
+pub number_missing : (word : Option Word) (id : Text) (least most : ℕ) (rows : List Row) → word ≡ Some (Number least most) → first_of id rows ≡ None → None ≡ number_at word id rows
+number_missing word id least most rows is e = rw (is, e) refl
 
 pub input_some : (rows : List Row) (t : Text) (x : List Bool) → first_of (codes "input") rows ≡ Some t → bits_of t ≡ Some x → Some (Some x) ≡ input_in rows
 unfolding input_in
@@ -133,117 +106,77 @@ pub rules_all : (rows : List Row) (w n c r s : ℕ) → w_of rows ≡ Some w →
 unfolding rules_in
 rules_all rows w n c r s e f g h i = all_rules (w_of rows) (n_of rows) (c_of rows) (r_of rows) (s_of rows) w n c r s e f g h i
 
--- the numbers of `demo`
-abbrev demo_from : Option ℕ → Option ℕ → Option ℕ → Option Task
-demo_from oq og os = oq >>= (λ q. og >>= (λ g. os >>= (λ s. Some (task.Demo q g s))))
+-- ---- three words
+module _ {X : Type 0} (read : Option Word → Text → List Row → Option X) (form : Form) (rows : List Row) where
+  pub all_read : (a b c : X) → read form.first (codes "FIRST") rows ≡ Some a → read form.second (codes "SECOND") rows ≡ Some b → read form.third (codes "THIRD") rows ≡ Some c
+      → in_turn read form rows ≡ Some (a, b, c)
+  all_read a b c e f g = rw (e, f, g) refl
 
-abbrev q_of : List Row → Option ℕ
-q_of rows = number_word (codes "QUBITS") 1 64 rows
+  pub no_first : read form.first (codes "FIRST") rows ≡ None → in_turn read form rows ≡ None
+  no_first e = rw e refl
 
-abbrev g_of : List Row → Option ℕ
-g_of rows = number_word (codes "GATES") 0 500000 rows
+  pub no_second : (a : X) → read form.first (codes "FIRST") rows ≡ Some a → read form.second (codes "SECOND") rows ≡ None → in_turn read form rows ≡ None
+  no_second a e f = rw (e, f) refl
 
-abbrev seed_of : List Row → Option ℕ
-seed_of rows = number_word (codes "SEED") 0 18446744073709551615 rows
+  pub no_third : (a b : X) → read form.first (codes "FIRST") rows ≡ Some a → read form.second (codes "SECOND") rows ≡ Some b → read form.third (codes "THIRD") rows ≡ None → in_turn read form rows ≡ None
+  no_third a b e f g = rw (e, f, g) refl
 
-no_qubits : (oq og os : Option ℕ) → oq ≡ None → None ≡ demo_from oq og os
-no_qubits oq og os e = rw e refl
-
-no_gates : (oq og os : Option ℕ) (q : ℕ) → oq ≡ Some q → og ≡ None → None ≡ demo_from oq og os
-no_gates oq og os q e f = rw (e, f) refl
-
-no_seed : (oq og os : Option ℕ) (q g : ℕ) → oq ≡ Some q → og ≡ Some g → os ≡ None → None ≡ demo_from oq og os
-no_seed oq og os q g e f h = rw (e, f, h) refl
-
-all_demo : (oq og os : Option ℕ) (q g s : ℕ) → oq ≡ Some q → og ≡ Some g → os ≡ Some s → Some (task.Demo q g s) ≡ demo_from oq og os
-all_demo oq og os q g s e f h = rw (e, f, h) refl
-
-pub demo_no_qubits : (rows : List Row) → q_of rows ≡ None → None ≡ demo_in rows
-unfolding demo_in
-demo_no_qubits rows e = no_qubits (q_of rows) (g_of rows) (seed_of rows) e
-
-pub demo_no_gates : (rows : List Row) (q : ℕ) → q_of rows ≡ Some q → g_of rows ≡ None → None ≡ demo_in rows
-unfolding demo_in
-demo_no_gates rows q e f = no_gates (q_of rows) (g_of rows) (seed_of rows) q e f
-
-pub demo_no_seed : (rows : List Row) (q g : ℕ) → q_of rows ≡ Some q → g_of rows ≡ Some g → seed_of rows ≡ None → None ≡ demo_in rows
-unfolding demo_in
-demo_no_seed rows q g e f h = no_seed (q_of rows) (g_of rows) (seed_of rows) q g e f h
-
-pub demo_all : (rows : List Row) (q g s : ℕ) → q_of rows ≡ Some q → g_of rows ≡ Some g → seed_of rows ≡ Some s → Some (task.Demo q g s) ≡ demo_in rows
-unfolding demo_in
-demo_all rows q g s e f h = all_demo (q_of rows) (g_of rows) (seed_of rows) q g s e f h
-
-pub task_sim : (form : Form) (rows : List Row) (x : Option (List Bool)) → form ≡ Sim → input_in rows ≡ Some x → Some (task.Sim x) ≡ task_in form rows
+-- ---- the task
+pub no_task : (form : Form) (rows : List Row) → in_turn number_at form rows ≡ None → None ≡ task_in form rows
 unfolding task_in
-task_sim form rows x e f = rw (e, f) refl
+no_task form rows e = sym (ap (option_and_then _) e)
 
-pub task_no_sim : (form : Form) (rows : List Row) → form ≡ Sim → input_in rows ≡ None → None ≡ task_in form rows
+pub no_input : (form : Form) (rows : List Row) (a b c : ℕ) → in_turn number_at form rows ≡ Some (a, b, c) → input_in rows ≡ None → None ≡ task_in form rows
 unfolding task_in
-task_no_sim form rows e f = rw (e, f) refl
+no_input form rows a b c e f = sym (ap (option_and_then _) e ∙ ap (option_and_then _) f)
 
-pub task_eq : (form : Form) (rows : List Row) → form ≡ Eq → Some task.Eq ≡ task_in form rows
+pub task_read : (form : Form) (rows : List Row) (a b c : ℕ) (x : Option (List Bool)) → in_turn number_at form rows ≡ Some (a, b, c) → input_in rows ≡ Some x → Some (filled form.kind a b c x) ≡ task_in form rows
 unfolding task_in
-task_eq form rows e = rw e refl
+task_read form rows a b c x e f = sym (ap (option_and_then _) e ∙ ap (option_and_then _) f)
 
-pub task_prob : (form : Form) (rows : List Row) → form ≡ Prob → Some task.Prob ≡ task_in form rows
-unfolding task_in
-task_prob form rows e = rw e refl
+-- ---- the files
+-- names behind those that are there
+abbrev pub behind : List Text → Option (List Text) → Option (List Text)
+behind old names = option_map (λ n. old ++ n) names
 
-pub task_demo : (form : Form) (rows : List Row) → form ≡ Demo → demo_in rows ≡ task_in form rows
-unfolding task_in
-task_demo form rows e = rw e refl
+-- one word's names, added to those before
+pub names_added : (old new : List Text) (o : Option (List Text)) → behind old o ≡ Some new → (n : List Text) × (o ≡ Some n) × (old ++ n ≡ new)
+names_added old new None e = absurd (cc)
+names_added old new (Some n) e = (n, refl, let some : Some (old ++ n) ≡ Some new = e in cc)
 
-pub file_some : (rows : List Row) (f : Text) (fs : List Text) → first_of (codes "FILE") rows ≡ Some f → fs ≡ f ∷ [] → Some fs ≡ file_in rows
-unfolding file_in
-file_some rows f fs e is = rw (e, is) refl
+pub names_missing : (word : Option Word) (id : Text) (rows : List Row) → word ≡ Some File → first_of id rows ≡ None → names_at word id rows ≡ None
+names_missing word id rows is e = rw (is, e) refl
 
-pub file_none : (rows : List Row) → first_of (codes "FILE") rows ≡ None → None ≡ file_in rows
-unfolding file_in
-file_none rows e = rw e refl
+pub name_pushed : (word : Option Word) (id : Text) (rows : List Row) (t : Text) (old new : List Text) → word ≡ Some File → first_of id rows ≡ Some t → new ≡ old ++ t ∷ [] → behind old (names_at word id rows) ≡ Some new
+name_pushed word id rows t old new is e pushed = rw (is, e) (ap (λ l. Some l) (sym pushed))
 
-pub pair_some : (rows : List Row) (f g : Text) (fs : List Text) → first_of (codes "FILE") rows ≡ Some f → first_of (codes "SECOND") rows ≡ Some g → fs ≡ f ∷ g ∷ [] → Some fs ≡ pair_in rows
-unfolding pair_in
-pair_some rows f g fs e h is = rw (e, h, is) refl
-
-pub pair_none : (rows : List Row) → first_of (codes "FILE") rows ≡ None → None ≡ pair_in rows
-unfolding pair_in
-pair_none rows e = rw e refl
-
-pub pair_one : (rows : List Row) (f : Text) → first_of (codes "FILE") rows ≡ Some f → first_of (codes "SECOND") rows ≡ None → None ≡ pair_in rows
-unfolding pair_in
-pair_one rows f e h = rw (e, h) refl
-
-pub files_one : (form : Form) (rows : List Row) → (form ≡ Sim) ⊎ (form ≡ Prob) → file_in rows ≡ files_in form rows
+pub no_files : (form : Form) (rows : List Row) → in_turn names_at form rows ≡ None → files_in form rows ≡ None
 unfolding files_in
-files_one form rows (inl e) = rw e refl
-files_one form rows (inr e) = rw e refl
+no_files form rows e = ap (option_map (λ n. n.0 ++ n.1 ++ n.2)) e
 
-pub files_pair : (form : Form) (rows : List Row) → form ≡ Eq → pair_in rows ≡ files_in form rows
+pub files_read : (form : Form) (rows : List Row) (old one two new : List Text) → old ≡ [] → behind old (names_at form.first (codes "FIRST") rows) ≡ Some one → behind one (names_at form.second (codes "SECOND") rows) ≡ Some two
+    → behind two (names_at form.third (codes "THIRD") rows) ≡ Some new → files_in form rows ≡ Some new
 unfolding files_in
-files_pair form rows e = rw e refl
+files_read form rows old one two new none e f g =
+    let a = names_added old one (names_at form.first (codes "FIRST") rows) e in
+    let b = names_added one two (names_at form.second (codes "SECOND") rows) f in
+    let c = names_added two new (names_at form.third (codes "THIRD") rows) g in
+    ap (option_map (λ n. n.0 ++ n.1 ++ n.2)) (all_read names_at form rows a.0 b.0 c.0 a.1 b.1 c.1)
+    ∙ ap (λ l. Some l) (ap (λ l. l ++ c.0) (ap (λ l. l ++ b.0) (sym (ap (λ l. l ++ a.0) none) ∙ a.2) ∙ b.2) ∙ c.2)
 
-pub files_none : (form : Form) (rows : List Row) (fs : List Text) → form ≡ Demo → fs ≡ [] → Some fs ≡ files_in form rows
-unfolding files_in
-files_none form rows fs e is = rw (e, is) refl
-
--- all together
-no_rules : (t : Task) (ofs : Option (List Text)) → (ofs >>= (λ fs. let o : Option Settings = None in o >>= (λ r. Some (request t fs r)))) ≡ None
-no_rules t None = refl
-no_rules t (Some fs) = refl
-
+-- ---- all together
 pub no_task_requested : (form : Form) (rows : List Row) → task_in form rows ≡ None → request_in form rows ≡ None
 unfolding request_in
 no_task_requested form rows e = rw e refl
 
 pub no_rules_requested : (form : Form) (rows : List Row) (t : Task) → task_in form rows ≡ Some t → rules_in rows ≡ None → request_in form rows ≡ None
 unfolding request_in
-no_rules_requested form rows t e f = rw (e, f) (no_rules t (files_in form rows))
+no_rules_requested form rows t e f = rw (e, f) refl
 
-pub no_files_requested : (form : Form) (rows : List Row) (t : Task) → task_in form rows ≡ Some t → files_in form rows ≡ None → request_in form rows ≡ None
+pub no_files_requested : (form : Form) (rows : List Row) (t : Task) (r : Settings) → task_in form rows ≡ Some t → rules_in rows ≡ Some r → files_in form rows ≡ None → request_in form rows ≡ None
 unfolding request_in
-no_files_requested form rows t e f = rw (e, f) refl
+no_files_requested form rows t r e f g = rw (e, f, g) refl
 
-pub all_requested : (form : Form) (rows : List Row) (t : Task) (fs : List Text) (r : Settings) → task_in form rows ≡ Some t → files_in form rows ≡ Some fs → rules_in rows ≡ Some r → request_in form rows ≡ Some (request t fs r)
+pub all_requested : (form : Form) (rows : List Row) (t : Task) (fs : List Text) (r : Settings) → task_in form rows ≡ Some t → rules_in rows ≡ Some r → files_in form rows ≡ Some fs → request_in form rows ≡ Some (request t fs r)
 unfolding request_in
 all_requested form rows t fs r e f g = rw (e, f, g) refl

@@ -1,18 +1,20 @@
--- What is asked for has the files of its command, and values in their ranges.
-use Rattle.std.proofs.Common.{◌≡◌, ℕ, ◌≤◌, ◌&&◌, ◌==◌, Bool, true, false, cond, nat_le, List, [], ◌∷◌, map, length, codes, Option, Some, None, option_map, inl, inr, refl, sym, ◌∙◌, ap, subst, arith}
+-- What is asked for has the files of its command, and values and rules in their ranges.
+use Rattle.std.proofs.Common.{◌≡◌, ℕ, ◌+◌, ◌≤◌, ◌&&◌, ◌==◌, Bool, nat_le, List, [], ◌∷◌, ◌++◌, map, length, codes, Option, Some, None, IfSome, option_map, inl, inr, refl, sym, ◌∙◌, ap, subst, arith, length-append}
 use Rattle.std.specs.List.{list_all}
 use Rattle.std.specs.Option.{option_map_or}
 use Rattle.std.specs.Str.Parse.{digits_value}
 use Rattle.std.proofs.lemmas.Bool.{cases_Bool, cond-true, cond-false, and_parts}
-use Rattle.amp_dense.specs.Rules.{Settings}
+use Rattle.amp_dense.specs.Rules.{Settings, AreRules}
 use Rattle.clap.specs.Words.{Row, Text, first_of}
 use Rattle.sliq_words.specs.declared.reading.Task.{Task}
 use Rattle.sliq_words.specs.declared.reading.Task.TheVariants as task
 use Rattle.sliq_words.specs.declared.form.Form.{Form}
-use Rattle.sliq_words.specs.declared.form.Form.TheVariants.{Sim, Eq, Prob, Demo}
-use Rattle.sliq_words.specs.Forms.{form_of, faults, rows_for}
+use Rattle.sliq_words.specs.declared.form.Word.{Word}
+use Rattle.sliq_words.specs.declared.form.Word.TheVariants.{File, Number}
+use Rattle.sliq_words.specs.Forms.{form_of, IsCommand, IsWithin, faults, rows_for}
 use Rattle.sliq_words.specs.Values.{is_bit, is_number, number_in, bits_of}
-use Rattle.sliq_words.specs.Asked.{◌>>=◌, Request, request, IsRequest, InRange, file_count, number_word, rules_in, input_in, demo_in, task_in, file_in, pair_in, files_in, request_in, asked_after, asked_of}
+use Rattle.sliq_words.specs.Asked.{◌>>=◌, Request, request, settings, IsRequest, InRange, file_count, setting_of, rules_in, input_in, in_turn, number_at, filled, task_in, names_at, files_in, request_in, asked_after, asked_of}
+use Rattle.sliq_words.proofs.Commands.{files_at, sound}
 use Rattle.sliq_words.proofs.Numbers.{le_from, length_bits}
 
 -- what goes on to a value had one to go on with
@@ -40,8 +42,11 @@ number_within least most n t e =
       | inr h ↦ absurd (let none : None ≡ Some n = sym (cond-false (is_number t && range) (Some m) None h) ∙ e in cc)
     ]
 
-word_within : (id : Text) (least most n : ℕ) (rows : List Row) → number_word id least most rows ≡ Some n → (least ≤ n) × (n ≤ most)
-word_within id least most n rows e = let found = bound (first_of id rows) (number_in least most) n e in number_within least most n found.0 found.2
+-- so does that of a word
+at_within : (word : Option Word) (id : Text) (rows : List Row) (n : ℕ) → number_at word id rows ≡ Some n → IsWithin word n
+at_within (Some (Number least most)) id rows n e = let found = bound (first_of id rows) (number_in least most) n e in number_within least most n found.0 found.2
+at_within (Some File) id rows n e = tt
+at_within None id rows n e = tt
 
 bits_short : (t : Text) (x : List Bool) → bits_of t ≡ Some x → length x ≤ 64
 unfolding bits_of
@@ -57,77 +62,116 @@ bits_short t x e =
       | inr h ↦ absurd (let none : None ≡ Some x = sym (cond-false fits (Some back) None h) ∙ e in cc)
     ]
 
-input_within : (rows : List Row) (o : Option (List Bool)) → input_in rows ≡ Some o → InRange (task.Sim o)
+pub input_within : (rows : List Row) (o : Option (List Bool)) → input_in rows ≡ Some o → IfSome o (λ bits. length bits ≤ 64)
 unfolding input_in
 input_within rows o e = by (first_of (codes "input") rows) e
   where
-    by : (f : Option Text) → option_map_or (λ t. option_map (λ x. Some x) (bits_of t)) f (Some None) ≡ Some o → InRange (task.Sim o)
+    by : (f : Option Text) → option_map_or (λ t. option_map (λ x. Some x) (bits_of t)) f (Some None) ≡ Some o → IfSome o (λ bits. length bits ≤ 64)
     by None e =
         let some : Some (let n : Option (List Bool) = None in n) ≡ Some o = e in
         let same : None ≡ o = cc in
-        subst (λ b. InRange (task.Sim b)) same tt
-    by (Some t) e = let read = mapped (bits_of t) (λ x. Some x) o e in subst (λ b. InRange (task.Sim b)) read.2 (bits_short t read.0 read.1)
+        subst (λ b. IfSome b (λ bits. length bits ≤ 64)) same tt
+    by (Some t) e = let read = mapped (bits_of t) (λ x. Some x) o e in subst (λ b. IfSome b (λ bits. length bits ≤ 64)) read.2 (bits_short t read.0 read.1)
 
-demo_within : (rows : List Row) (t : Task) → demo_in rows ≡ Some t → InRange t × (file_count t ≡ 0)
-unfolding demo_in
-demo_within rows t e =
-    let q = bound (number_word (codes "QUBITS") 1 64 rows) _ t e in
-    let g = bound (number_word (codes "GATES") 0 500000 rows) _ t q.2 in
-    let s = bound (number_word (codes "SEED") 0 18446744073709551615 rows) _ t g.2 in
-    let some : Some (task.Demo q.0 g.0 s.0) ≡ Some t = s.2 in
-    let same : task.Demo q.0 g.0 s.0 ≡ t = cc in
-    let qubits = word_within (codes "QUBITS") 1 64 q.0 rows q.1 in
-    subst (λ u. InRange u × (file_count u ≡ 0)) same ((qubits.0, qubits.1, (word_within (codes "GATES") 0 500000 g.0 rows g.1).1), refl)
+-- ---- the words of a command
+-- the values of three words that were read
+three : {X : Type 0} (read : Option Word → Text → List Row → Option X) (form : Form) (rows : List Row) (n : X × X × X) → in_turn read form rows ≡ Some n
+    → (read form.first (codes "FIRST") rows ≡ Some n.0) × (read form.second (codes "SECOND") rows ≡ Some n.1) × (read form.third (codes "THIRD") rows ≡ Some n.2)
+three {X} read form rows n e =
+    let a = bound (read form.first (codes "FIRST") rows) _ n e in
+    let b = bound (read form.second (codes "SECOND") rows) _ n a.2 in
+    let c = bound (read form.third (codes "THIRD") rows) _ n b.2 in
+    let some : Some (a.0, b.0, c.0) ≡ Some n = c.2 in
+    let same : (let m : X × X × X = (a.0, b.0, c.0) in m) ≡ n = cc in
+    (a.1 ∙ ap (λ (m : X × X × X). Some m.0) same, b.1 ∙ ap (λ (m : X × X × X). Some m.1) same, c.1 ∙ ap (λ (m : X × X × X). Some m.2) same)
 
--- how many files a command's words name
-abbrev named : Form → ℕ
-named Sim = 1
-named Eq = 2
-named Prob = 1
-named Demo = 0
-
-task_within : (form : Form) (rows : List Row) (t : Task) → task_in form rows ≡ Some t → InRange t × (file_count t ≡ named form)
+task_sound : (form : Form) (rows : List Row) (t : Task) → IsCommand form → task_in form rows ≡ Some t → InRange t × (file_count t ≡ files_at form.first + files_at form.second + files_at form.third)
 unfolding task_in
-task_within Sim rows t e =
-    let x = mapped (input_in rows) (λ (o : Option (List Bool)). task.Sim o) t e in
-    subst (λ u. InRange u × (file_count u ≡ 1)) x.2 (input_within rows x.0 x.1, refl)
-task_within Eq rows t e = let some : Some task.Eq ≡ Some t = e in let same : task.Eq ≡ t = cc in subst (λ u. InRange u × (file_count u ≡ 2)) same (tt, refl)
-task_within Prob rows t e = let some : Some task.Prob ≡ Some t = e in let same : task.Prob ≡ t = cc in subst (λ u. InRange u × (file_count u ≡ 1)) same (tt, refl)
-task_within Demo rows t e = demo_within rows t e
+task_sound form rows t command e =
+    let n = bound (in_turn number_at form rows) _ t e in
+    let x = bound (input_in rows) _ t n.2 in
+    let some : Some (filled form.kind n.0.0 n.0.1 n.0.2 x.0) ≡ Some t = x.2 in
+    let same : filled form.kind n.0.0 n.0.1 n.0.2 x.0 ≡ t = cc in
+    let read = three number_at form rows n.0 n.1 in
+    let is = sound form command in (
+      subst InRange same (is.values n.0.0 n.0.1 n.0.2 x.0 (at_within form.first (codes "FIRST") rows n.0.0 read.0) (at_within form.second (codes "SECOND") rows n.0.1 read.1)
+          (at_within form.third (codes "THIRD") rows n.0.2 read.2) (input_within rows x.0 x.1)),
+      ap file_count (sym same) ∙ is.files n.0.0 n.0.1 n.0.2 x.0,
+    )
 
-file_counted : (rows : List Row) (fs : List Text) → file_in rows ≡ Some fs → length fs ≡ 1
-unfolding file_in
-file_counted rows fs e = let f = mapped (first_of (codes "FILE") rows) (λ (t : Text). t ∷ []) fs e in sym (ap length f.2)
+names_counted : (word : Option Word) (id : Text) (rows : List Row) (names : List Text) → names_at word id rows ≡ Some names → length names ≡ files_at word
+names_counted (Some File) id rows names e = sym (ap length (mapped (first_of id rows) (λ (t : Text). t ∷ []) names e).2)
+names_counted (Some (Number least most)) id rows names e = let some : Some (let n : List Text = [] in n) ≡ Some names = e in let same : [] ≡ names = cc in sym (ap length same)
+names_counted None id rows names e = let some : Some (let n : List Text = [] in n) ≡ Some names = e in let same : [] ≡ names = cc in sym (ap length same)
 
-files_counted : (form : Form) (rows : List Row) (fs : List Text) → files_in form rows ≡ Some fs → length fs ≡ named form
-unfolding files_in pair_in
-files_counted Sim rows fs e = file_counted rows fs e
-files_counted Eq rows fs e =
-    let f = bound (first_of (codes "FILE") rows) _ fs e in
-    let g = bound (first_of (codes "SECOND") rows) _ fs f.2 in
-    let some : Some (f.0 ∷ g.0 ∷ []) ≡ Some fs = g.2 in
-    let same : f.0 ∷ g.0 ∷ [] ≡ fs = cc in
-    sym (ap length same)
-files_counted Prob rows fs e = file_counted rows fs e
-files_counted Demo rows fs e = let some : Some (let n : List Text = [] in n) ≡ Some fs = e in let same : [] ≡ fs = cc in sym (ap length same)
+files_counted : (form : Form) (rows : List Row) (fs : List Text) → files_in form rows ≡ Some fs → length fs ≡ files_at form.first + files_at form.second + files_at form.third
+unfolding files_in
+files_counted form rows fs e =
+    let n = mapped (in_turn names_at form rows) _ fs e in
+    let read = three names_at form rows n.0 n.1 in
+    let first = names_counted form.first (codes "FIRST") rows n.0.0 read.0 in
+    let second = names_counted form.second (codes "SECOND") rows n.0.1 read.1 in
+    let third = names_counted form.third (codes "THIRD") rows n.0.2 read.2 in
+    omega (arith, ap length n.2, length-append n.0.0 n.0.1, length-append (n.0.0 ++ n.0.1) n.0.2, first, second, third)
 
-request_sound : (form : Form) (rows : List Row) (r : Request) → request_in form rows ≡ Some r → IsRequest r
+-- ---- the rules
+-- so does what an option gives, where what is usual does
+setting_within : (id : Text) (least most usual n : ℕ) (rows : List Row) → least ≤ usual → usual ≤ most → setting_of id least most usual rows ≡ Some n → (least ≤ n) × (n ≤ most)
+unfolding setting_of
+setting_within id least most usual n rows low high e = by (first_of id rows) e
+  where
+    by : (o : Option Text) → option_map_or (number_in least most) o (Some usual) ≡ Some n → (least ≤ n) × (n ≤ most)
+    by None e =
+        let some : Some usual ≡ Some n = e in
+        let same : usual ≡ n = cc in
+        (omega (arith, low, same), omega (arith, high, same))
+    by (Some t) e = number_within least most n t e
+
+-- each rule by its option
+rules_sound : (rows : List Row) (r : Settings) → rules_in rows ≡ Some r → AreRules r
+unfolding rules_in
+rules_sound rows r e =
+    let w = bound (setting_of (codes "width") 2 128 128 rows) _ r e in
+    let n = bound (setting_of (codes "nodes") 64 16777216 1048576 rows) _ r w.2 in
+    let c = bound (setting_of (codes "cache") 1 1048576 65536 rows) _ r n.2 in
+    let k = bound (setting_of (codes "reclaim") 0 1000000 16 rows) _ r c.2 in
+    let s = bound (setting_of (codes "sift") 0 1000000 0 rows) _ r k.2 in
+    let some : Some (settings w.0 n.0 c.0 k.0 s.0) ≡ Some r = s.2 in
+    let same : settings w.0 n.0 c.0 k.0 s.0 ≡ r = cc in
+    let width = setting_within (codes "width") 2 128 128 w.0 rows (omega arith) (omega arith) w.1 in
+    let nodes = setting_within (codes "nodes") 64 16777216 1048576 n.0 rows (omega arith) (omega arith) n.1 in
+    let cache = setting_within (codes "cache") 1 1048576 65536 c.0 rows (omega arith) (omega arith) c.1 in
+    let reclaim = setting_within (codes "reclaim") 0 1000000 16 k.0 rows (omega arith) (omega arith) k.1 in
+    let sift = setting_within (codes "sift") 0 1000000 0 s.0 rows (omega arith) (omega arith) s.1 in
+    subst AreRules same (record {
+      least_width = width.0;
+      greatest_width = width.1;
+      least_nodes = nodes.0;
+      greatest_nodes = nodes.1;
+      least_cache = cache.0;
+      greatest_cache = cache.1;
+      greatest_reclaim = reclaim.1;
+      greatest_sift = sift.1;
+    })
+
+-- ---- all together
+request_sound : (form : Form) (rows : List Row) (r : Request) → IsCommand form → request_in form rows ≡ Some r → IsRequest r
 unfolding request_in
-request_sound form rows r e =
+request_sound form rows r command e =
     let t = bound (task_in form rows) _ r e in
-    let fs = bound (files_in form rows) _ r t.2 in
-    let rules = bound (rules_in rows) _ r fs.2 in
-    let some : Some (request t.0 fs.0 rules.0) ≡ Some r = rules.2 in
+    let rules = bound (rules_in rows) _ r t.2 in
+    let fs = bound (files_in form rows) _ r rules.2 in
+    let some : Some (request t.0 fs.0 rules.0) ≡ Some r = fs.2 in
     let same : request t.0 fs.0 rules.0 ≡ r = cc in
-    let within = task_within form rows t.0 t.1 in
-    subst IsRequest same (record { files = files_counted form rows fs.0 fs.1 ∙ sym within.1; values = within.0 })
+    let is = task_sound form rows t.0 command t.1 in
+    subst IsRequest same (record { files = files_counted form rows fs.0 fs.1 ∙ sym is.1; values = is.0; rules = rules_sound rows rules.0 rules.1 })
 
-after_sound : (form : Form) (words : List Text) (r : Request) → asked_after form words ≡ Some r → IsRequest r
+after_sound : (form : Form) (words : List Text) (r : Request) → IsCommand form → asked_after form words ≡ Some r → IsRequest r
 unfolding asked_after
-after_sound form words r e =
+after_sound form words r command e =
     let none = length (faults form words) == 0 in
     elim (cases_Bool none) [
-      | inl h ↦ request_sound form (rows_for form words) r (sym (cond-true none (request_in form (rows_for form words)) None h) ∙ e)
+      | inl h ↦ request_sound form (rows_for form words) r command (sym (cond-true none (request_in form (rows_for form words)) None h) ∙ e)
       | inr h ↦ absurd (let q : None ≡ Some r = sym (cond-false none (request_in form (rows_for form words)) None h) ∙ e in cc)
     ]
 
@@ -135,11 +179,10 @@ after_sound form words r e =
 pub asked_sound : (words : List Text) (r : Request) → asked_of words ≡ Some r → IsRequest r
 asked_sound [] r e = absurd (let none : None ≡ Some r = e in cc)
 asked_sound (program ∷ []) r e = absurd (let none : None ≡ Some r = e in cc)
-asked_sound (program ∷ word ∷ rest) r e = let form = bound (form_of word) (λ f. asked_after f rest) r e in after_sound form.0 rest r form.2
+asked_sound (program ∷ word ∷ rest) r e = let form = bound (form_of word) (λ f. asked_after f rest) r e in after_sound form.0 rest r (word, form.1) form.2
 
 -- no command has more than two files
 pub few_files : (t : Task) → file_count t ≤ 2
-few_files (task.Sim bits) = omega arith
 few_files task.Eq = omega arith
-few_files task.Prob = omega arith
 few_files (task.Demo qubits gates seed) = omega arith
+few_files _ = omega arith

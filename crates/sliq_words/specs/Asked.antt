@@ -1,13 +1,16 @@
 -- What the words of a run ask for.
-use Rattle.std.specs.Prelude.{◌≡◌, ℕ, ◌≤◌, ◌==◌, Bool, cond, List, [], ◌∷◌, map, length, codes, string_bytes, Option, Some, None, option_map, option_and_then}
+use Rattle.std.specs.Prelude.{◌≡◌, ℕ, ◌≤◌, ◌==◌, Bool, cond, List, [], ◌∷◌, ◌++◌, map, length, drop, codes, string_bytes, Option, Some, None, IfSome, option_map, option_and_then}
 use Rattle.std.specs.Option.{option_map_or}
-use Rattle.amp_dense.specs.Rules.{Settings}
+use Rattle.amp_dense.specs.Rules.{Settings, AreRules}
 use Rattle.clap.specs.Words.{Row, Text, first_of}
 use Rattle.sliq_words.specs.declared.reading.Task.{Task}
 use Rattle.sliq_words.specs.declared.reading.Task.TheVariants as task
 use Rattle.sliq_words.specs.declared.reading.Asked.{Asked}
 use Rattle.sliq_words.specs.declared.form.Form.{Form}
-use Rattle.sliq_words.specs.declared.form.Form.TheVariants.{Sim, Eq, Prob, Demo}
+use Rattle.sliq_words.specs.declared.form.Kind.{Kind}
+use Rattle.sliq_words.specs.declared.form.Kind.TheVariants.{Sim, Eq, Prob, Demo}
+use Rattle.sliq_words.specs.declared.form.Word.{Word}
+use Rattle.sliq_words.specs.declared.form.Word.TheVariants.{File, Number}
 use Rattle.sliq_words.specs.Forms.{form_of, faults, rows_for}
 use Rattle.sliq_words.specs.Values.{number_in, bits_of}
 
@@ -15,10 +18,6 @@ infixl 10 ◌>>=◌
 -- goes on with what an option holds, if it holds something
 abbrev pub ◌>>=◌ : {X Y : Type 0} → Option X → (X → Option Y) → Option Y
 o >>= next = option_and_then next o
-
--- the number of a word, within its range
-abbrev pub number_word : Text → ℕ → ℕ → List Row → Option ℕ
-number_word id least most rows = first_of id rows >>= number_in least most
 
 -- the number of an option, within its range, or the usual one where the option isn't given
 unfoldable pub setting_of : Text → ℕ → ℕ → ℕ → List Row → Option ℕ
@@ -42,38 +41,41 @@ rules_in rows = do
 unfoldable pub input_in : List Row → Option (Option (List Bool))
 input_in rows = option_map_or (λ t. option_map (λ x. Some x) (bits_of t)) (first_of (codes "input") rows) (Some None)
 
--- the three numbers of `demo`
-unfoldable pub demo_in : List Row → Option Task
-demo_in rows = do
-  qubits ← number_word (codes "QUBITS") 1 64 rows
-  gates ← number_word (codes "GATES") 0 500000 rows
-  seed ← number_word (codes "SEED") 0 18446744073709551615 rows
-  Some (task.Demo qubits gates seed)
+-- three words of a command, read one by one
+abbrev pub in_turn : {X : Type 0} → (Option Word → Text → List Row → Option X) → Form → List Row → Option (X × X × X)
+in_turn read form rows = do
+  first ← read form.first (codes "FIRST") rows
+  second ← read form.second (codes "SECOND") rows
+  third ← read form.third (codes "THIRD") rows
+  Some (first, second, third)
+
+-- the number of a word, within its range; 0 where the command has no number there
+abbrev pub number_at : Option Word → Text → List Row → Option ℕ
+number_at (Some (Number least most)) id rows = first_of id rows >>= number_in least most
+number_at word id rows = Some 0
+
+-- the task of this kind with these values
+abbrev pub filled : Kind → ℕ → ℕ → ℕ → Option (List Bool) → Task
+filled Sim first second third input = task.Sim input
+filled Eq first second third input = task.Eq
+filled Prob first second third input = task.Prob
+filled Demo first second third input = task.Demo first second third
 
 -- a command with its values
 unfoldable pub task_in : Form → List Row → Option Task
-task_in Sim rows = option_map (λ x. task.Sim x) (input_in rows)
-task_in Eq rows = Some task.Eq
-task_in Prob rows = Some task.Prob
-task_in Demo rows = demo_in rows
+task_in form rows = do
+  n ← in_turn number_at form rows
+  input ← input_in rows
+  Some (filled form.kind n.0 n.1 n.2 input)
 
--- the file of a command that has one
-unfoldable pub file_in : List Row → Option (List Text)
-file_in rows = option_map (λ f. f ∷ []) (first_of (codes "FILE") rows)
-
--- the files of a command that has two
-unfoldable pub pair_in : List Row → Option (List Text)
-pair_in rows = do
-  f ← first_of (codes "FILE") rows
-  g ← first_of (codes "SECOND") rows
-  Some (f ∷ g ∷ [])
+-- the name of a file, where the command has one
+abbrev pub names_at : Option Word → Text → List Row → Option (List Text)
+names_at (Some File) id rows = option_map (λ name. name ∷ []) (first_of id rows)
+names_at word id rows = Some []
 
 -- the files of a command, in their order
 unfoldable pub files_in : Form → List Row → Option (List Text)
-files_in Sim rows = file_in rows
-files_in Eq rows = pair_in rows
-files_in Prob rows = file_in rows
-files_in Demo rows = Some []
+files_in form rows = option_map (λ n. n.0 ++ n.1 ++ n.2) (in_turn names_at form rows)
 
 -- what is asked for: a command with its values, the names of its files, and the rules
 pub record Request : Type 0 where
@@ -86,21 +88,21 @@ request t fs r = record { task = t; files = fs; rules = r }
 
 -- how many files a command has
 abbrev pub file_count : Task → ℕ
-file_count (task.Sim bits) = 1
 file_count task.Eq = 2
-file_count task.Prob = 1
 file_count (task.Demo qubits gates seed) = 0
+file_count _ = 1
 
 -- the values of a command lie in their ranges
 abbrev pub InRange : Task → Type 0
-InRange (task.Sim (Some bits)) = length bits ≤ 64
+InRange (task.Sim input) = IfSome input (λ bits. length bits ≤ 64)
 InRange (task.Demo qubits gates seed) = (1 ≤ qubits) × (qubits ≤ 64) × (gates ≤ 500000)
 InRange _ = Unit {0}
 
--- there are as many files as the command has, and its values lie in their ranges
+-- there are as many files as the command has, and its values and its rules lie in their ranges
 pub record IsRequest (r : Request) : Type 0 where
   pub files : length r.files ≡ file_count r.task
   pub values : InRange r.task
+  pub rules : AreRules r.rules
 
 -- the names of the files of what is asked for, if anything is
 abbrev pub files_of : Option Request → List Text
@@ -115,8 +117,8 @@ request_of a = request a.task (map string_bytes a.files.items) a.rules
 unfoldable pub request_in : Form → List Row → Option Request
 request_in form rows = do
   t ← task_in form rows
-  fs ← files_in form rows
   r ← rules_in rows
+  fs ← files_in form rows
   Some (request t fs r)
 
 -- what the words after a command's name ask for: nothing where the command line has a fault
@@ -130,5 +132,4 @@ command_in _ = None
 
 -- what the words of a run ask for: a command by its name, and the words after it as its command line
 abbrev pub asked_of : List Text → Option Request
-asked_of (program ∷ word ∷ rest) = form_of word >>= (λ form. asked_after form rest)
-asked_of _ = None
+asked_of words = command_in words >>= (λ form. asked_after form (drop 2 words))

@@ -1,15 +1,16 @@
 //! The words of a run, read as a command.
-ghost use Rattle.std.specs.Prelude.{◌≡◌, ◌≤◌, ◌∷◌, [], IfOk, IfSome, IsErrOf, map, string_bytes, None, Some, Err, option_map};
+ghost use Rattle.std.specs.Prelude.{◌≡◌, ◌≤◌, ◌∷◌, [], ◌++◌, IfOk, OnOk, IfErr, IfSome, IsErrOf, map, string_bytes, None, Some, Err, option_map};
 ghost use Rattle.clap.specs.Words.{rows_of, found_of};
-ghost use Rattle.sliq_words.specs.Asked.{asked_of, command_in, request_of, request_in, IsRequest, setting_of, rules_in, input_in, demo_in, task_in, file_in, pair_in, files_in, number_word};
+ghost use Rattle.sliq_words.specs.Forms.{IsCommand, IsWithin};
+ghost use Rattle.sliq_words.specs.Asked.{asked_of, command_in, request_of, request_in, IsRequest, InRange, setting_of, rules_in, input_in, number_at, filled, task_in, names_at, files_in};
 
-use crate::form::Form;
+use crate::form::{Form, Kind, Word, named};
 use crate::syntax::matches_in;
 use crate::values::{bits, number};
 use amp_dense::Rules;
 use bit_lists::Bits;
 use clap::ArgMatches;
-use std::alloc::{AllocError, Global};
+use std::alloc::Global;
 use thiserror::Error;
 
 /// A command with its values. `input` is None where `--input` isn't given.
@@ -82,114 +83,104 @@ fn input(matches: &ArgMatches) -> Option<Option<Bits>>
     }
 }
 
-/// The number of a word within its range.
-fn word(matches: &ArgMatches, id: &str, least: u64, most: u64) -> Option<u64>
-    ensures value { result ≡ number_word id.now least most (rows_of (found_of matches.now)) }
-    ensures range { IfSome result (λ n. (least ≤ n) × (n ≤ most)) }
+/// The number of a word, within its range; 0 where the command has no number there.
+fn number_at(word: Option<Word>, id: &str, matches: &ArgMatches) -> Option<u64>
+    ensures value { result ≡ number_at word id.now (rows_of (found_of matches.now)) }
+    ensures range { IfSome result (IsWithin word) }
 {
-    match matches.get_str(id) {
-        Some(text) => number(text, least, most),
-        None => None,
+    let Some(word) = word else {
+        return Some(0);
+    };
+    match word {
+        Word::File => Some(0),
+        Word::Number(least, most) => match matches.get_str(id) {
+            Some(text) => number(text, least, most),
+            None => None,
+        },
     }
 }
 
-/// `demo` with its three numbers.
-fn demo(matches: &ArgMatches) -> Option<Task>
-    ensures { result ≡ demo_in (rows_of (found_of matches.now)) }
+/// The task of this kind with these values.
+fn filled(kind: Kind, first: u64, second: u64, third: u64, input: Option<Bits>) -> Task
+    requires { InRange (filled kind first second third input) }
+    ensures { result ≡ filled kind first second third input }
 {
-    let qubits = word(matches, "QUBITS", 1, 64)?;
-    let gates = word(matches, "GATES", 0, 500000)?;
-    let seed = word(matches, "SEED", 0, u64::MAX)?;
-    Some(Task::Demo {
-        qubits: qubits as u8,
-        gates: gates as u32,
-        seed,
-    })
+    match kind {
+        Kind::Sim => Task::Sim { input },
+        Kind::Eq => Task::Eq,
+        Kind::Prob => Task::Prob,
+        Kind::Demo => Task::Demo {
+            qubits: first as u8,
+            gates: second as u32,
+            seed: third,
+        },
+    }
 }
 
 /// A command with its values.
 fn task_of(form: Form, matches: &ArgMatches) -> Option<Task>
+    requires { IsCommand form }
     ensures { result ≡ task_in form (rows_of (found_of matches.now)) }
 {
-    match form {
-        Form::Sim => match input(matches) {
-            Some(input) => Some(Task::Sim { input }),
-            None => None,
+    let first = number_at(form.first, "FIRST", matches)?;
+    let second = number_at(form.second, "SECOND", matches)?;
+    let third = number_at(form.third, "THIRD", matches)?;
+    let input = input(matches)?;
+    Some(filled(form.kind, first, second, third, input))
+}
+
+/// Adds the name of a file, where the command has one.
+fn add_name(
+    alloc: Global,
+    files: &mut Vec<String>,
+    word: Option<Word>,
+    id: &str,
+    matches: &ArgMatches,
+) -> Result<(), AskStop>
+    ensures named { OnOk result (option_map (λ names. map string_bytes files.old.items ++ names) (names_at word id.now (rows_of (found_of matches.now))) ≡ Some (map string_bytes files.new.items)) }
+    ensures bad { IsErrOf result AskStop.Bad → names_at word id.now (rows_of (found_of matches.now)) ≡ None }
+{
+    let Some(word) = word else {
+        return Ok(());
+    };
+    match word {
+        Word::File => match matches.get_str(id) {
+            Some(name) => push_name(alloc, files, name),
+            None => Err(AskStop::Bad),
         },
-        Form::Eq => Some(Task::Eq),
-        Form::Prob => Some(Task::Prob),
-        Form::Demo => demo(matches),
+        Word::Number(..) => Ok(()),
     }
 }
 
-/// One file's name, in a list of its own.
-fn one_file(alloc: Global, name: &str) -> Result<Vec<String>, AllocError>
-    ensures { IfOk result (λ fs. map string_bytes fs.items ≡ name.now ∷ []) }
+/// Adds a name.
+fn push_name(alloc: Global, files: &mut Vec<String>, name: &str) -> Result<(), AskStop>
+    ensures ok { OnOk result (map string_bytes files.new.items ≡ map string_bytes files.old.items ++ name.now ∷ []) }
+    ensures stop { IfErr result (λ stop. stop ≡ AskStop.OutOfMemory) }
+{
+    let Ok(name) = String::from_str(alloc, name) else {
+        return Err(AskStop::OutOfMemory);
+    };
+    match files.push(name) {
+        Ok(()) => Ok(()),
+        Err(_) => Err(AskStop::OutOfMemory),
+    }
+}
+
+/// The files of a command, in their order.
+fn files(alloc: Global, form: Form, matches: &ArgMatches) -> Result<Vec<String>, AskStop>
+    ensures named { IfOk result (λ files. files_in form (rows_of (found_of matches.now)) ≡ Some (map string_bytes files.items)) }
+    ensures bad { IsErrOf result AskStop.Bad → files_in form (rows_of (found_of matches.now)) ≡ None }
 {
     let mut files = Vec::new(alloc);
-    files.push(String::from_str(alloc, name)?)?;
+    add_name(alloc, &mut files, form.first, "FIRST", matches)?;
+    add_name(alloc, &mut files, form.second, "SECOND", matches)?;
+    add_name(alloc, &mut files, form.third, "THIRD", matches)?;
     Ok(files)
-}
-
-/// Two files' names.
-fn two_files(alloc: Global, first: &str, second: &str) -> Result<Vec<String>, AllocError>
-    ensures { IfOk result (λ fs. map string_bytes fs.items ≡ first.now ∷ second.now ∷ []) }
-{
-    let mut files = one_file(alloc, first)?;
-    files.push(String::from_str(alloc, second)?)?;
-    Ok(files)
-}
-
-/// No file's name.
-fn no_files(alloc: Global) -> Vec<String>
-    ensures { map string_bytes result.items ≡ [] }
-{
-    Vec::new(alloc)
-}
-
-/// The file of a command that has one.
-fn file_word(alloc: Global, matches: &ArgMatches) -> Result<Option<Vec<String>>, AllocError>
-    ensures { IfOk result (λ o. option_map (λ fs. map string_bytes fs.items) o ≡ file_in (rows_of (found_of matches.now))) }
-{
-    match matches.get_str("FILE") {
-        Some(name) => {
-            let files = one_file(alloc, name)?;
-            Ok(Some(files))
-        }
-        None => Ok(None),
-    }
-}
-
-/// The files of a command that has two.
-fn file_words(alloc: Global, matches: &ArgMatches) -> Result<Option<Vec<String>>, AllocError>
-    ensures { IfOk result (λ o. option_map (λ fs. map string_bytes fs.items) o ≡ pair_in (rows_of (found_of matches.now))) }
-{
-    let Some(first) = matches.get_str("FILE") else {
-        return Ok(None);
-    };
-    match matches.get_str("SECOND") {
-        Some(second) => {
-            let files = two_files(alloc, first, second)?;
-            Ok(Some(files))
-        }
-        None => Ok(None),
-    }
-}
-
-/// The files of a command in their order, or None where one is missing.
-fn files(alloc: Global, form: Form, matches: &ArgMatches) -> Result<Option<Vec<String>>, AllocError>
-    ensures { IfOk result (λ o. option_map (λ fs. map string_bytes fs.items) o ≡ files_in form (rows_of (found_of matches.now))) }
-{
-    match form {
-        Form::Sim => file_word(alloc, matches),
-        Form::Eq => file_words(alloc, matches),
-        Form::Prob => file_word(alloc, matches),
-        Form::Demo => Ok(Some(no_files(alloc))),
-    }
 }
 
 /// What a command's words and options ask for: the values are read before any file's name is copied.
 fn read_values(alloc: Global, form: Form, matches: &ArgMatches) -> Result<Asked, AskStop>
+    requires { IsCommand form }
     ensures reads { IfOk result (λ a. request_in form (rows_of (found_of matches.now)) ≡ Some (request_of a)) }
     ensures bad { IsErrOf result AskStop.Bad → request_in form (rows_of (found_of matches.now)) ≡ None }
 {
@@ -199,12 +190,7 @@ fn read_values(alloc: Global, form: Form, matches: &ArgMatches) -> Result<Asked,
     let Some(rules) = rules(matches) else {
         return Err(AskStop::Bad);
     };
-    let Ok(found) = files(alloc, form, matches) else {
-        return Err(AskStop::OutOfMemory);
-    };
-    let Some(files) = found else {
-        return Err(AskStop::Bad);
-    };
+    let files = files(alloc, form, matches)?;
     Ok(Asked { task, files, rules })
 }
 
@@ -221,7 +207,7 @@ pub fn ask(alloc: Global, words: &[String]) -> Result<Asked, AskStop>
     if words.len() < 2 {
         return Err(AskStop::Bad);
     }
-    let Some(form) = Form::named(words[1].as_str()) else {
+    let Some(form) = named(words[1].as_str()) else {
         return Err(AskStop::Bad);
     };
     match matches_in(alloc, form, &words[2..]) {

@@ -1,9 +1,9 @@
 //! The words and options of each command, as `clap` reads them.
 ghost use Rattle.std.specs.Prelude.{◌≡◌, IfOk, IsErrOf, OnErr, ◌≢◌, [], map, string_bytes};
 ghost use Rattle.clap.specs.Words.{app_of, rows_of, found_of};
-ghost use Rattle.sliq_words.specs.Forms.{bare_app, with_word, with_option, with_rules, app_for, faults, rows_for};
+ghost use Rattle.sliq_words.specs.Forms.{bare_app, with_word, with_option, with_input, with_rules, app_for, IsCommand, faults, rows_for};
 
-use crate::form::Form;
+use crate::form::{Form, Word};
 use crate::reading::AskStop;
 use clap::error::ErrorKind;
 use clap::{Arg, ArgAction, ArgMatches, Command};
@@ -16,10 +16,18 @@ fn bare<'a>(alloc: Global) -> Command<'a>
     Command::new(alloc, "sliq").no_binary_name(true)
 }
 
-/// Adds a word that must be given.
-fn add_word<'a>(command: Command<'a>, alloc: Global, id: &'a str) -> Result<Command<'a>, AllocError>
-    ensures { IfOk result (λ c. app_of c ≡ with_word id.entry.now (app_of command.entry)) }
+/// Adds a word, which must be given, where the command has one.
+fn add_word<'a>(
+    command: Command<'a>,
+    alloc: Global,
+    word: Option<Word>,
+    id: &'a str,
+) -> Result<Command<'a>, AllocError>
+    ensures { IfOk result (λ c. app_of c ≡ with_word word id.entry.now (app_of command.entry)) }
 {
+    let Some(_) = word else {
+        return Ok(command);
+    };
     let word = Arg::new(alloc, id).required(true).action(ArgAction::Set);
     command.arg(word)
 }
@@ -36,6 +44,16 @@ fn add_option<'a>(
     command.arg(option)
 }
 
+/// Adds `--input`, where the command has it.
+fn add_input<'a>(command: Command<'a>, alloc: Global, has: bool) -> Result<Command<'a>, AllocError>
+    ensures { IfOk result (λ c. app_of c ≡ with_input has (app_of command.entry)) }
+{
+    if !has {
+        return Ok(command);
+    }
+    add_option(command, alloc, "input")
+}
+
 /// Adds the options that every command has.
 fn add_rules<'a>(command: Command<'a>, alloc: Global) -> Result<Command<'a>, AllocError>
     ensures { IfOk result (λ c. app_of c ≡ with_rules (app_of command.entry)) }
@@ -47,52 +65,15 @@ fn add_rules<'a>(command: Command<'a>, alloc: Global) -> Result<Command<'a>, All
     add_option(reclaim, alloc, "sift")
 }
 
-/// `sim FILE [--input BITS]`.
-fn sim<'a>(alloc: Global) -> Result<Command<'a>, AllocError>
-    ensures { IfOk result (λ c. app_of c ≡ app_for Form.Sim) }
-{
-    let file = add_word(bare(alloc), alloc, "FILE")?;
-    let input = add_option(file, alloc, "input")?;
-    add_rules(input, alloc)
-}
-
-/// `eq FILE FILE`.
-fn eq<'a>(alloc: Global) -> Result<Command<'a>, AllocError>
-    ensures { IfOk result (λ c. app_of c ≡ app_for Form.Eq) }
-{
-    let first = add_word(bare(alloc), alloc, "FILE")?;
-    let second = add_word(first, alloc, "SECOND")?;
-    add_rules(second, alloc)
-}
-
-/// `prob FILE`.
-fn prob<'a>(alloc: Global) -> Result<Command<'a>, AllocError>
-    ensures { IfOk result (λ c. app_of c ≡ app_for Form.Prob) }
-{
-    let file = add_word(bare(alloc), alloc, "FILE")?;
-    add_rules(file, alloc)
-}
-
-/// `demo QUBITS GATES SEED`.
-fn demo<'a>(alloc: Global) -> Result<Command<'a>, AllocError>
-    ensures { IfOk result (λ c. app_of c ≡ app_for Form.Demo) }
-{
-    let qubits = add_word(bare(alloc), alloc, "QUBITS")?;
-    let gates = add_word(qubits, alloc, "GATES")?;
-    let seed = add_word(gates, alloc, "SEED")?;
-    add_rules(seed, alloc)
-}
-
 /// The command line of a command.
 fn syntax<'a>(alloc: Global, form: Form) -> Result<Command<'a>, AllocError>
     ensures { IfOk result (λ c. app_of c ≡ app_for form) }
 {
-    match form {
-        Form::Sim => sim(alloc),
-        Form::Eq => eq(alloc),
-        Form::Prob => prob(alloc),
-        Form::Demo => demo(alloc),
-    }
+    let first = add_word(bare(alloc), alloc, form.first, "FIRST")?;
+    let second = add_word(first, alloc, form.second, "SECOND")?;
+    let third = add_word(second, alloc, form.third, "THIRD")?;
+    let input = add_input(third, alloc, form.input)?;
+    add_rules(input, alloc)
 }
 
 /// What `clap` finds in the words after a command's name.
@@ -101,6 +82,7 @@ pub fn matches_in<'a>(
     form: Form,
     words: &'a [String],
 ) -> Result<ArgMatches<'a>, AskStop>
+    requires { IsCommand form }
     ensures bad { IsErrOf result AskStop.Bad → faults form (map string_bytes words.entry.now) ≢ [] }
     ensures reads { IfOk result (λ _. faults form (map string_bytes words.entry.now) ≡ []) }
     ensures rows { IfOk result (λ m. rows_of (found_of m) ≡ rows_for form (map string_bytes words.entry.now)) }

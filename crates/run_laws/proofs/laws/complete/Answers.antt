@@ -1,14 +1,14 @@
-use Rattle.run_laws.proofs.Completeness.{sim_comes, prob_comes, demo_comes, eq_comes}
+use Rattle.run_laws.proofs.CommandLaws.{sim_comes, prob_comes, demo_comes, eq_comes}
 use Rattle.run_laws.proofs.laws.complete.Goals as goal
 
 pub returns-clause-sim : goal.returns-clause-sim
-returns-clause-sim c = λ rules bits text u reads same wide fits has. sim_comes rules wide text u reads bits same fits has
+returns-clause-sim c = λ rules bits text u reads same wide fits has. sim_comes rules wide text u reads bits (same, (fits, has))
 
 pub returns-clause-prob : goal.returns-clause-prob
-returns-clause-prob c = λ rules text u reads wide fits light has. prob_comes rules wide text u reads fits light has
+returns-clause-prob c = λ rules text u reads wide fits light has. prob_comes rules wide text u reads (light, (fits, has))
 
 pub returns-clause-demo : goal.returns-clause-demo
-returns-clause-demo c = λ rules qubits gates seed some le few wide fits has. demo_comes rules wide qubits gates seed some le few fits has
+returns-clause-demo c = λ rules qubits gates seed some le few wide fits has. demo_comes rules wide qubits gates seed some le few (fits, has)
 
 pub returns-clause-eq : goal.returns-clause-eq
-returns-clause-eq c = λ rules one two u v first second same wide fits room has. eq_comes rules wide one two u v first second same fits room has
+returns-clause-eq c = λ rules one two u v first second same wide fits room has. eq_comes rules wide one two u v first second (same, fits, room, has)

@@ -1,7 +1,7 @@
 use Rattle.std.proofs.Common.{◌≡◌, ◌≤◌, ◌+◌, length, take, drop, Ok}
 use Rattle.comparison.specs.Steps.{mixed, steps_of}
 use Rattle.unitary_update.specs.Kept.{standing_of, Multiplies}
-use Rattle.equivalence.proofs.comparing.multiplied.Given as goal
+use Rattle.equivalence.proofs.comparing.stepped.Given as goal
 
 -- the matrix after the steps so far, and the steps that are left
 abbrev pub invariant-steps : goal.invariant-steps
