@@ -1,17 +1,15 @@
 //! Verdicts over diagrams against those over lists of all entries, with and without sifts, and a gate planted in a circuit of 20 qubits.
-ghost use Rattle.std.specs.Prelude.{◌≡◌, ◌≤◌, ◌<◌, IfOk};
-ghost use Rattle.gate_set.specs.Matrix.{arity_of, IsKind};
+ghost use Rattle.std.specs.Prelude.{◌≡◌, ◌≤◌, ◌<◌, IfSome};
 ghost use Rattle.gate_set.specs.Shape.{IsOn};
 
-use crate::tools::kind_of;
+use crate::tools::{Row, gate_of, kind_of};
 use amp_dense::Rules;
 use amp_printer::Verdict;
-use bit_lists::{Bits, OutOfMemory};
+use bit_lists::Bits;
 use equivalence::compare;
-use gate_set::{Circuit, Gate, Kind};
+use gate_set::{Circuit, Kind};
 use ring_omega::Quad;
 use std::alloc::Global;
-use std::test::Fail;
 
 /// A number drawn by a linear congruential generator.
 fn drawn(seed: &mut u32, below: u32) -> u32
@@ -22,188 +20,288 @@ fn drawn(seed: &mut u32, below: u32) -> u32
     (*seed >> 8) % below
 }
 
-/// A gate of this kind on qubit `first` of three, or on it and the ones after it in turn; from 3 on, with others as further controls.
-fn gate_on(alloc: Global, kind: Kind, first: u32) -> Gate
-    requires { IsKind kind }
-    ensures { IsOn 3 result }
-{
-    match kind.arity() {
-        1 => on_one(alloc, kind, first),
-        2 => on_two(alloc, kind, first),
-        _ => on_three(alloc, kind, first),
-    }
-}
+/// Further controls and qubits of three, by the number of the kind's qubits and a drawn number.
+static PLACES: [[(u8, [u8; 4]); 6]; 3] = [
+    [
+        (0, [0, 1, 2, 3]),
+        (0, [1, 2, 0, 3]),
+        (0, [2, 0, 1, 3]),
+        (1, [0, 1, 2, 3]),
+        (2, [1, 2, 0, 3]),
+        (1, [2, 0, 1, 3]),
+    ],
+    [
+        (0, [0, 1, 2, 3]),
+        (0, [1, 2, 0, 3]),
+        (0, [2, 0, 1, 3]),
+        (1, [0, 1, 2, 3]),
+        (1, [1, 2, 0, 3]),
+        (1, [2, 0, 1, 3]),
+    ],
+    [
+        (0, [0, 1, 2, 3]),
+        (0, [1, 2, 0, 3]),
+        (0, [2, 0, 1, 3]),
+        (0, [2, 0, 1, 3]),
+        (0, [2, 0, 1, 3]),
+        (0, [2, 0, 1, 3]),
+    ],
+];
 
-fn on_one(alloc: Global, kind: Kind, first: u32) -> Gate
-    requires power { IsKind kind }
-    requires arity { arity_of kind ≡ 1 }
-    ensures { IsOn 3 result }
-{
-    match first {
-        0 => Gate::new(alloc, kind, &[0]),
-        1 => Gate::new(alloc, kind, &[1]),
-        2 => Gate::new(alloc, kind, &[2]),
-        3 => Gate::controlled(alloc, &[1], kind, &[0]),
-        4 => Gate::controlled(alloc, &[2, 0], kind, &[1]),
-        _ => Gate::controlled(alloc, &[0], kind, &[2]),
-    }
-}
-
-fn on_two(alloc: Global, kind: Kind, first: u32) -> Gate
-    requires power { IsKind kind }
-    requires arity { arity_of kind ≡ 2 }
-    ensures { IsOn 3 result }
-{
-    match first {
-        0 => Gate::new(alloc, kind, &[0, 1]),
-        1 => Gate::new(alloc, kind, &[1, 2]),
-        2 => Gate::new(alloc, kind, &[2, 0]),
-        3 => Gate::controlled(alloc, &[2], kind, &[0, 1]),
-        4 => Gate::controlled(alloc, &[0], kind, &[1, 2]),
-        _ => Gate::controlled(alloc, &[1], kind, &[2, 0]),
-    }
-}
-
-fn on_three(alloc: Global, kind: Kind, first: u32) -> Gate
-    requires power { IsKind kind }
-    requires arity { arity_of kind ≡ 3 }
-    ensures { IsOn 3 result }
-{
-    match first {
-        0 => Gate::new(alloc, kind, &[0, 1, 2]),
-        1 => Gate::new(alloc, kind, &[1, 2, 0]),
-        _ => Gate::new(alloc, kind, &[2, 0, 1]),
-    }
-}
-
-/// Adds a gate.
-fn add(circuit: &mut Circuit, gate: Gate) -> Result<(), OutOfMemory>
-    requires { IsOn circuit.old.qubits gate }
-    ensures { circuit.new.qubits ≡ circuit.old.qubits }
-{
+/// Adds the gate of a row. Whether it is there and added.
+fn is_added(alloc: Global, circuit: &mut Circuit, row: Row) -> bool {
     if circuit.gates().len() >= 1_000_000 {
-        return Err(OutOfMemory);
-    }
-    circuit.push(gate)
-}
-
-/// So many drawn gates on three qubits.
-fn drawn_circuit(alloc: Global, mut seed: u32, gates: u32) -> Result<Circuit, OutOfMemory>
-    ensures { IfOk result (λ c. c.qubits ≡ 3) }
-{
-    let mut circuit = Circuit::new(alloc, 3)?;
-    'gates: for _ in 0..gates {
-        let kind = kind_of(drawn(&mut seed, 22));
-        let gate = gate_on(alloc, kind, drawn(&mut seed, 6));
-        add(&mut circuit, gate)?;
-    }
-    Ok(circuit)
-}
-
-/// Two lists have the same bits.
-fn same_bits(one: &Bits, other: &Bits) -> bool {
-    if one.len() != other.len() {
         return false;
     }
-    for i in 0..one.len() {
-        if one.get(i) != other.get(i) {
+    match gate_of(alloc, row, circuit.qubits()) {
+        Some(gate) => circuit.push(gate).is_ok(),
+        None => false,
+    }
+}
+
+/// A drawn gate on three qubits.
+fn drawn_row(seed: &mut u32) -> Option<Row> {
+    let kind = kind_of(drawn(seed, 22));
+    let first = drawn(seed, 6);
+    let places = PLACES.get(usize::from(kind.arity()) - 1)?;
+    let (controls, on) = *places.get(first as usize)?;
+    Some((kind, controls, on))
+}
+
+/// Adds so many drawn gates. Whether all are added.
+fn are_drawn(alloc: Global, circuit: &mut Circuit, seed: u32, gates: u32) -> bool {
+    let mut seed = seed;
+    for _ in 0..gates {
+        let row = drawn_row(&mut seed);
+        if !is_some_added(alloc, circuit, row) {
             return false;
         }
     }
     true
 }
 
-/// Two verdicts say the same.
-fn alike(one: &Verdict, other: &Verdict) -> bool {
-    match (one, other) {
-        (Verdict::Scalar(q, k), Verdict::Scalar(r, j)) => q == r && k == j,
-        (
-            Verdict::Differs {
-                row,
-                col,
-                value,
-                corner,
-            },
-            Verdict::Differs {
-                row: other_row,
-                col: other_col,
-                value: other_value,
-                corner: other_corner,
-            },
-        ) => {
-            same_bits(row, other_row)
-                && same_bits(col, other_col)
-                && value == other_value
-                && corner == other_corner
+/// Adds the gate of a row, if there is one. Whether it is added.
+fn is_some_added(alloc: Global, circuit: &mut Circuit, row: Option<Row>) -> bool {
+    match row {
+        Some(row) => is_added(alloc, circuit, row),
+        None => false,
+    }
+}
+
+/// A gate of 20 qubits near a drawn one.
+fn large_row(number: u32, seed: &mut u32) -> Row {
+    let q = drawn(seed, 18) as u8;
+    let kind = match number % 4 {
+        0 => Kind::H,
+        1 => Kind::Cx,
+        2 => Kind::T,
+        _ => Kind::Ccx,
+    };
+    (kind, 0, [q, q + 1, q + 2, 0])
+}
+
+const PLANTED: Row = (Kind::X, 0, [11, 0, 0, 0]);
+
+/// Adds 60 gates, with X on a qubit before the gate of this number. Whether all are added.
+fn are_planted(alloc: Global, circuit: &mut Circuit, planted: u32) -> bool {
+    let mut seed = 7u32;
+    for number in 0..60u32 {
+        if number == planted && !is_added(alloc, circuit, PLANTED) {
+            return false;
         }
+        let row = large_row(number, &mut seed);
+        if !is_added(alloc, circuit, row) {
+            return false;
+        }
+    }
+    true
+}
+
+/// H on one of the first three of six qubits.
+fn turn(q: u8) -> Row {
+    (Kind::H, 0, [q, 0, 0, 0])
+}
+
+/// Cx from it to the qubit three places on.
+fn pair(q: u8) -> Row {
+    (Kind::Cx, 0, [q, q.wrapping_add(3), 0, 0])
+}
+
+/// Adds three pairs, one after the other. Whether all are added.
+fn are_paired(alloc: Global, circuit: &mut Circuit) -> bool {
+    for q in 0..3u8 {
+        if !is_added(alloc, circuit, turn(q)) || !is_added(alloc, circuit, pair(q)) {
+            return false;
+        }
+    }
+    true
+}
+
+/// Adds the same pairs with all H first, and then T on the qubit of this number, if it is one of the six. Whether all are added.
+fn are_turned_first(alloc: Global, circuit: &mut Circuit, late: u8) -> bool {
+    for number in 0..6u8 {
+        let row = if number < 3 {
+            turn(number)
+        } else {
+            pair(number - 3)
+        };
+        if !is_added(alloc, circuit, row) {
+            return false;
+        }
+    }
+    late >= 6 || is_added(alloc, circuit, (Kind::T, 0, [late, 0, 0, 0]))
+}
+
+/// What a circuit is.
+#[derive(Clone, Copy)]
+enum Course {
+    /// So many gates on three qubits, drawn by a number.
+    Drawn { seed: u32, gates: u32 },
+    /// 60 gates on 20 qubits, each near the one before, and X planted among them.
+    Planted(u32),
+    /// Pairs of six qubits, one after the other.
+    Paired,
+    /// The same with all H first, and a late T.
+    TurnedFirst(u8),
+}
+
+impl Course {
+    fn qubits(self) -> u8
+        ensures { result ≤ 20 }
+    {
+        match self {
+            Course::Drawn { .. } => 3,
+            Course::Planted(_) => 20,
+            Course::Paired => 6,
+            Course::TurnedFirst(_) => 6,
+        }
+    }
+
+    /// Adds its gates. Whether all are added.
+    fn are_added(self, alloc: Global, circuit: &mut Circuit) -> bool {
+        match self {
+            Course::Drawn { seed, gates } => are_drawn(alloc, circuit, seed, gates),
+            Course::Planted(planted) => are_planted(alloc, circuit, planted),
+            Course::Paired => are_paired(alloc, circuit),
+            Course::TurnedFirst(late) => are_turned_first(alloc, circuit, late),
+        }
+    }
+}
+
+/// The circuit of a course.
+fn circuit(alloc: Global, course: Course) -> Option<Circuit> {
+    let mut circuit = Circuit::new(alloc, course.qubits()).ok()?;
+    if course.are_added(alloc, &mut circuit) {
+        Some(circuit)
+    } else {
+        drop(circuit);
+        None
+    }
+}
+
+/// What a verdict says: the scalar; or the place, the row and the column, the entry there, and the corner.
+#[derive(Clone, Copy, PartialEq, Eq)]
+enum Said {
+    Scalar(Quad, u32),
+    Differs((u128, u8), (u128, u8), (Quad, u32), (Quad, u32)),
+}
+
+fn said_by(verdict: &Verdict) -> Said {
+    match verdict {
+        Verdict::Scalar(q, k) => Said::Scalar(*q, *k),
+        Verdict::Differs {
+            row,
+            col,
+            value,
+            corner,
+        } => Said::Differs(shown(row), shown(col), *value, *corner),
+    }
+}
+
+fn shown(x: &Bits) -> (u128, u8) {
+    (x.place(), x.len())
+}
+
+/// The verdict over diagrams.
+fn verdict(alloc: Global, u: &Circuit, v: &Circuit, rules: &Rules) -> Option<Said> {
+    if u.qubits() != v.qubits() {
+        return None;
+    }
+    match compare(alloc, u, v, rules) {
+        Ok(verdict) => Some(said_by(&verdict)),
+        Err(_) => None,
+    }
+}
+
+/// The verdict over lists of all entries, if there are so few qubits.
+fn listed(alloc: Global, u: &Circuit, v: &Circuit) -> Option<Said> {
+    if u.qubits() != v.qubits() || u.qubits() > 6 {
+        return None;
+    }
+    match dense_matrix::compare(alloc, u, v, 128) {
+        Ok(verdict) => Some(said_by(&verdict)),
+        Err(_) => None,
+    }
+}
+
+/// Both verdicts.
+type Verdicts = (Option<Said>, Option<Said>);
+
+fn verdicts(alloc: Global, u: &Circuit, other: Course, rules: &Rules) -> Option<Verdicts> {
+    let v = circuit(alloc, other)?;
+    let both = (verdict(alloc, u, &v, rules), listed(alloc, u, &v));
+    drop(v);
+    Some(both)
+}
+
+/// Both verdicts of two courses.
+fn compared(alloc: Global, one: Course, other: Course, rules: &Rules) -> Option<Verdicts> {
+    let u = circuit(alloc, one)?;
+    let both = verdicts(alloc, &u, other, rules);
+    drop(u);
+    both
+}
+
+/// Whether both verdicts are there and say the same.
+fn are_alike(verdicts: Option<Verdicts>) -> bool {
+    match verdicts {
+        Some((Some(one), Some(other))) => one == other,
         _ => false,
     }
 }
 
-/// 200 pairs of circuits: one with as many gates more than the other as the number of the pair leaves over three.
+// 200 pairs of circuits: one with as many gates more than the other as the number of the pair leaves over three.
 #[test]
-fn pairs_against_lists_of_all_entries(rt: HostRuntime) -> Result<(), Fail> {
-    let alloc = rt.alloc();
-    for pair in 0..200u32 {
-        let u = drawn_circuit(alloc, pair, 10)?;
-        let v = drawn_circuit(alloc, pair, 10 + pair % 3)?;
-        let Ok(verdict) = compare(alloc, &u, &v, &Rules::usual()) else {
-            panic!(rt; "no verdict of pair {pair}");
-        };
-        let Ok(listed) = dense_matrix::compare(alloc, &u, &v, 128) else {
-            panic!(rt; "no list of pair {pair}");
-        };
-        assert!(rt; alike(&verdict, &listed), "pair {pair}");
+fn pairs_against_lists_of_all_entries(rt: HostRuntime) {
+    for seed in 0..200u32 {
+        let u = Course::Drawn { seed, gates: 10 };
+        let gates = 10 + seed % 3;
+        let v = Course::Drawn { seed, gates };
+        let both = compared(rt.alloc(), u, v, &Rules::usual());
+        assert!(rt; are_alike(both), "pair {seed}");
     }
-    Ok(())
 }
 
-/// 60 gates on 20 qubits, each near the one before, with X on a qubit before the gate of this number.
-fn large_circuit(alloc: Global, planted: u32) -> Result<Circuit, OutOfMemory>
-    ensures { IfOk result (λ c. c.qubits ≡ 20) }
-{
-    let mut seed = 7;
-    let mut circuit = Circuit::new(alloc, 20)?;
-    'gates: for number in 0..60u32 {
-        if number == planted {
-            add(&mut circuit, Gate::new(alloc, Kind::X, &[11]))?;
-        }
-        let first = drawn(&mut seed, 18) as u8;
-        let gate = match number % 4 {
-            0 => Gate::new(alloc, Kind::H, &[first]),
-            1 => Gate::new(alloc, Kind::Cx, &[first, first + 1]),
-            2 => Gate::new(alloc, Kind::T, &[first]),
-            _ => Gate::new(alloc, Kind::Ccx, &[first, first + 1, first + 2]),
-        };
-        add(&mut circuit, gate)?;
-    }
-    Ok(circuit)
+/// The verdict on two circuits of 20 qubits.
+fn planted(alloc: Global, place: u32) -> Option<Said> {
+    let u = Course::Planted(60);
+    let (verdict, _) = compared(alloc, u, Course::Planted(place), &Rules::usual())?;
+    verdict
 }
 
 #[test]
-fn an_x_planted_at_each_place(rt: HostRuntime) -> Result<(), Fail> {
-    let alloc = rt.alloc();
-    let rules = Rules::usual();
-    let u = large_circuit(alloc, 60)?;
-    for planted in 0..60u32 {
-        let v = large_circuit(alloc, planted)?;
-        let verdict = compare(alloc, &u, &v, &rules);
-        assert!(rt;
-            matches!(verdict, Ok(Verdict::Differs { .. })),
-            "place {planted}"
-        );
+fn an_x_planted_at_each_place(rt: HostRuntime) {
+    for place in 0..60u32 {
+        let verdict = planted(rt.alloc(), place);
+        assert!(rt; matches!(verdict, Some(Said::Differs(..))), "place {place}");
     }
-    let Ok(Verdict::Scalar(q, k)) = compare(alloc, &u, &u, &rules) else {
-        panic!(rt; "no scalar");
-    };
     let one = Quad {
         a: 0,
         b: 0,
         c: 0,
         d: 1,
     };
-    assert_eq!(rt; (q, k), (one, 0));
-    Ok(())
+    assert!(rt; planted(rt.alloc(), 60) == Some(Said::Scalar(one, 0)));
 }
 
 /// Rules with a sift after each so many steps.
@@ -219,69 +317,13 @@ fn sifted(sift: u32) -> Rules
     }
 }
 
-/// Adds H on one of the first three of six qubits.
-fn turn(alloc: Global, circuit: &mut Circuit, q: u8) -> Result<(), OutOfMemory>
-    requires six { circuit.old.qubits ≡ 6 }
-    requires within { q < 3 }
-    ensures { circuit.new.qubits ≡ circuit.old.qubits }
-{
-    add(circuit, Gate::new(alloc, Kind::H, &[q]))
-}
-
-/// Adds Cx from it to the qubit three places on.
-fn pair(alloc: Global, circuit: &mut Circuit, q: u8) -> Result<(), OutOfMemory>
-    requires six { circuit.old.qubits ≡ 6 }
-    requires within { q < 3 }
-    ensures { circuit.new.qubits ≡ circuit.old.qubits }
-{
-    add(circuit, Gate::new(alloc, Kind::Cx, &[q, q + 3]))
-}
-
-/// Three pairs, one after the other.
-fn pair_by_pair(alloc: Global) -> Result<Circuit, OutOfMemory>
-    ensures { IfOk result (λ c. c.qubits ≡ 6) }
-{
-    let mut circuit = Circuit::new(alloc, 6)?;
-    'pairs: for q in 0..3u8 {
-        turn(alloc, &mut circuit, q)?;
-        pair(alloc, &mut circuit, q)?;
-    }
-    Ok(circuit)
-}
-
-/// The same pairs with all H first, and then T on the qubit of this number, if it is one of the six.
-fn all_turned_first(alloc: Global, late: u8) -> Result<Circuit, OutOfMemory>
-    ensures { IfOk result (λ c. c.qubits ≡ 6) }
-{
-    let mut circuit = Circuit::new(alloc, 6)?;
-    'turns: for q in 0..3u8 {
-        turn(alloc, &mut circuit, q)?;
-    }
-    'pairs: for q in 0..3u8 {
-        pair(alloc, &mut circuit, q)?;
-    }
-    if late < 6 {
-        add(&mut circuit, Gate::new(alloc, Kind::T, &[late]))?;
-    }
-    Ok(circuit)
-}
-
-/// No sift, one after each step, and one after each second step, for equal circuits and for some with one gate more.
+// No sift, one after each step, and one after each second step, for equal circuits and for some with one gate more.
 #[test]
-fn sifts_leave_the_verdict(rt: HostRuntime) -> Result<(), Fail> {
-    let alloc = rt.alloc();
-    let u = pair_by_pair(alloc)?;
-    for late in 0..7u8 {
-        let v = all_turned_first(alloc, late)?;
-        let Ok(listed) = dense_matrix::compare(alloc, &u, &v, 128) else {
-            panic!(rt; "no list of qubit {late}");
-        };
-        for sift in 0..3u32 {
-            let Ok(verdict) = compare(alloc, &u, &v, &sifted(sift)) else {
-                panic!(rt; "no verdict of qubit {late}");
-            };
-            assert!(rt; alike(&verdict, &listed), "qubit {late}, sift {sift}");
-        }
+fn sifts_leave_the_verdict(rt: HostRuntime) {
+    for number in 0..21u32 {
+        let (late, sift) = ((number / 3) as u8, number % 3);
+        let v = Course::TurnedFirst(late);
+        let both = compared(rt.alloc(), Course::Paired, v, &sifted(sift));
+        assert!(rt; are_alike(both), "qubit {late}, sift {sift}");
     }
-    Ok(())
 }

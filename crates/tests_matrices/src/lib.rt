@@ -4,6 +4,8 @@
 #[cfg(test)]
 mod equivalence_tests;
 #[cfg(test)]
+mod products;
+#[cfg(test)]
 mod tools;
 #[cfg(test)]
 mod unitary_tests;

@@ -1,22 +1,21 @@
 //! Matrices of all kinds of gates from both sides, the order of products, and the limit of the identity and of a step.
-ghost use Rattle.std.specs.Prelude.{◌≡◌, ◌≤◌, ◌<◌, ℕ, length};
-ghost use Rattle.gate_set.specs.Matrix.{arity_of, IsKind};
+ghost use Rattle.std.specs.Prelude.{◌≡◌, ◌≤◌, ◌<◌, ℕ, length, IfSome, IfOk};
 ghost use Rattle.gate_set.specs.Shape.{IsOn};
 
-use crate::tools::kind_of;
+use crate::products::each_product;
+use crate::tools::{Row, gate_of, kind_of};
 use amp_dense::{Rules, Stop};
 use bit_lists::Bits;
+use comparison::Side;
 use gate_set::{Entry, Gate, Kind};
 use ring_omega::Quad;
 use std::alloc::Global;
-use std::process::Abort;
 use unitary_update::SlicedMatrix;
 
 /// Rules with so many nodes.
 fn with_nodes(nodes: u32) -> Rules
     requires least { 64 ≤ nodes }
     requires greatest { nodes ≤ 1048576 }
-    ensures { result.nodes ≡ nodes }
 {
     Rules {
         width: 128,
@@ -27,159 +26,67 @@ fn with_nodes(nodes: u32) -> Rules
     }
 }
 
+/// The gate and the held nodes that a stop for want of nodes tells.
+fn told(stop: &Stop) -> (u32, u32) {
+    match stop {
+        Stop::Nodes { gate, held, .. } => (*gate, *held),
+        _ => (u32::MAX, u32::MAX),
+    }
+}
+
 /// The identity, with so many nodes.
-fn roomy(rt: &impl Abort, alloc: Global, qubits: u8, nodes: u32) -> SlicedMatrix
+fn begun(alloc: Global, qubits: u8, nodes: u32) -> Result<SlicedMatrix, (u32, u32)>
     requires few { qubits ≤ 64 }
     requires least { 64 ≤ nodes }
     requires greatest { nodes ≤ 1048576 }
-    ensures { result.qubits ≡ qubits }
+    ensures { IfOk result (λ m. m.qubits ≡ qubits) }
 {
-    let Ok(matrix) = SlicedMatrix::identity(alloc, qubits, &with_nodes(nodes)) else {
-        panic!(rt; "no room");
-    };
-    matrix
-}
-
-/// The identity, with many nodes.
-fn fresh(rt: &impl Abort, alloc: Global, qubits: u8) -> SlicedMatrix
-    requires { qubits ≤ 64 }
-    ensures { result.qubits ≡ qubits }
-{
-    roomy(rt, alloc, qubits, 1_048_576)
-}
-
-/// A gate on one of so many qubits.
-fn single(alloc: Global, kind: Kind, q: u8, qubits: u8) -> Gate
-    requires power { IsKind kind }
-    requires one { arity_of kind ≡ 1 }
-    requires within { q < qubits }
-    requires few { qubits ≤ 64 }
-    ensures { IsOn qubits result }
-{
-    Gate::new(alloc, kind, &[q])
-}
-
-/// A gate on qubits 2, 0 and 1 of three, or on the first of them.
-fn placed(alloc: Global, kind: Kind) -> Gate
-    requires { IsKind kind }
-    ensures on { IsOn 3 result }
-    ensures kind { result.kind ≡ kind }
-{
-    match kind.arity() {
-        1 => Gate::new(alloc, kind, &[2]),
-        2 => Gate::new(alloc, kind, &[2, 0]),
-        _ => Gate::new(alloc, kind, &[2, 0, 1]),
+    match SlicedMatrix::identity(alloc, qubits, &with_nodes(nodes)) {
+        Ok(matrix) => Ok(matrix),
+        Err(stop) => Err(told(&stop)),
     }
 }
 
-/// Multiplies from the left.
-fn left(rt: &impl Abort, alloc: Global, m: &mut SlicedMatrix, gate: &Gate)
+/// Multiplies from a side.
+pub fn multiplied(alloc: Global, m: &mut SlicedMatrix, side: Side, gate: &Gate) -> Result<(), Stop>
     requires { IsOn m.old.qubits gate.now }
     ensures { m.new.qubits ≡ m.old.qubits }
 {
     if m.accepted() >= 2_000_000 {
-        panic!(rt; "too many");
+        return Err(Stop::OutOfMemory);
     }
-    match m.left(alloc, gate) {
-        Ok(()) => {}
-        Err(_) => panic!(rt; "refused"),
-    }
-}
-
-/// Multiplies from the right.
-fn right(rt: &impl Abort, alloc: Global, m: &mut SlicedMatrix, gate: &Gate)
-    requires { IsOn m.old.qubits gate.now }
-    ensures { m.new.qubits ≡ m.old.qubits }
-{
-    if m.accepted() >= 2_000_000 {
-        panic!(rt; "too many");
-    }
-    match m.right(alloc, gate) {
-        Ok(()) => {}
-        Err(_) => panic!(rt; "refused"),
+    match side {
+        Side::Left => m.left(alloc, gate),
+        Side::Right => m.right(alloc, gate),
     }
 }
 
-/// The list of three bits of a number.
-fn three_bits(number: u8) -> Bits
-    ensures { length result ≡ 3 }
+/// Multiplies by the gate of a row. Whether it is there and accepted.
+pub fn is_multiplied(alloc: Global, m: &mut SlicedMatrix, qubits: u8, side: Side, row: Row) -> bool
+    requires { m.old.qubits ≡ qubits }
+    ensures { m.new.qubits ≡ qubits }
 {
-    let mut x = Bits::zeros(3);
-    x.set(0, number & 4 != 0);
-    x.set(1, number & 2 != 0);
-    x.set(2, number & 1 != 0);
-    x
-}
-
-/// The list of one bit.
-fn one_bit(bit: bool) -> Bits
-    ensures { length result ≡ 1 }
-{
-    let mut x = Bits::zeros(1);
-    x.set(0, bit);
-    x
+    match gate_of(alloc, row, qubits) {
+        Some(gate) => multiplied(alloc, m, side, &gate).is_ok(),
+        None => false,
+    }
 }
 
 /// A power of ω.
 fn omega(power: u8) -> Quad {
-    match power {
-        0 => Quad {
-            a: 0,
-            b: 0,
-            c: 0,
-            d: 1,
-        },
-        1 => Quad {
-            a: 0,
-            b: 0,
-            c: 1,
-            d: 0,
-        },
-        2 => Quad {
-            a: 0,
-            b: 1,
-            c: 0,
-            d: 0,
-        },
-        3 => Quad {
-            a: 1,
-            b: 0,
-            c: 0,
-            d: 0,
-        },
-        4 => Quad {
-            a: 0,
-            b: 0,
-            c: 0,
-            d: -1,
-        },
-        5 => Quad {
-            a: 0,
-            b: 0,
-            c: -1,
-            d: 0,
-        },
-        6 => Quad {
-            a: 0,
-            b: -1,
-            c: 0,
-            d: 0,
-        },
-        _ => Quad {
-            a: -1,
-            b: 0,
-            c: 0,
-            d: 0,
-        },
+    let one = if power < 4 { 1 } else { -1 };
+    let mut q = Quad::ZERO;
+    match power % 4 {
+        0 => q.d = one,
+        1 => q.c = one,
+        2 => q.b = one,
+        _ => q.a = one,
     }
+    q
 }
 
-/// The bits of qubits 2, 0 and 1 of a place of three qubits as a row of a matrix of that many, with the bits that it leaves.
-fn part(arity: u8, place: u8) -> (u8, u8)
-    requires some { 1 ≤ arity }
-    requires few { arity ≤ 3 }
-    ensures { (k : ℕ) → k ≡ arity → result.0 < 8 }
-{
+/// The bits of qubits 2, 0 and 1 of a place of three qubits as a row of a matrix of that many, and the bits that it leaves.
+fn part(arity: u8, place: u8) -> (u8, u8) {
     let first = place & 1;
     let second = place >> 2 & 1;
     let third = place >> 1 & 1;
@@ -219,174 +126,253 @@ fn expected(gate: &Gate, row: u8, column: u8) -> Quad {
     }
 }
 
-/// The matrix is that of the gate.
-fn expect_gate(rt: &impl Abort, m: &SlicedMatrix, gate: &Gate)
+/// How many entries are those of the gate.
+fn each_entry(m: &SlicedMatrix, gate: &Gate) -> u32
     requires { m.now.qubits ≡ 3 }
 {
-    assert_eq!(rt;
-        (m.exponent(), m.accepted()),
-        (u32::from(gate.half_power()), 1)
-    );
+    let mut count = 0u32;
     for place in 0..64u8 {
         let (row, column) = (place / 8, place % 8);
-        assert_eq!(rt;
-            m.entry(&three_bits(row), &three_bits(column)),
-            expected(gate, row, column)
-        );
+        let x = Bits::at_place(u128::from(row), 3);
+        let y = Bits::at_place(u128::from(column), 3);
+        if m.entry(&x, &y) == expected(gate, row, column) {
+            count = count.wrapping_add(1);
+        }
     }
+    count
 }
 
-#[test]
-fn all_kinds_from_both_sides(rt: HostRuntime) {
-    let alloc = rt.alloc();
-    for number in 0..22u32 {
-        let gate = placed(alloc, kind_of(number));
-        let mut m = fresh(&rt, alloc, 3);
-        left(&rt, alloc, &mut m, &gate);
-        expect_gate(&rt, &m, &gate);
-        let mut m = fresh(&rt, alloc, 3);
-        right(&rt, alloc, &mut m, &gate);
-        expect_gate(&rt, &m, &gate);
-    }
-}
-
-/// The four entries of a matrix on one qubit.
-fn four_entries(m: &SlicedMatrix) -> (Quad, Quad, Quad, Quad)
-    requires { m.now.qubits ≡ 1 }
+/// How many entries are right after the step of a kind from a side, if the exponent is.
+fn alone(alloc: Global, m: &mut SlicedMatrix, side: Side, kind: Kind) -> u32
+    requires { m.old.qubits ≡ 3 }
+    ensures { m.new.qubits ≡ 3 }
 {
-    let (zero, one) = (one_bit(false), one_bit(true));
-    (
+    let Some(gate) = gate_of(alloc, (kind, 0, [2, 0, 1, 0]), 3) else {
+        return 0;
+    };
+    let done = multiplied(alloc, m, side, &gate).is_ok();
+    if done && m.exponent() == u32::from(gate.half_power()) {
+        each_entry(m, &gate)
+    } else {
+        0
+    }
+}
+
+/// How many steps of a list are accepted.
+fn each_step(alloc: Global, m: &mut SlicedMatrix, qubits: u8, steps: &[(Side, Row)]) -> u32
+    requires { m.old.qubits ≡ qubits }
+    ensures { m.new.qubits ≡ qubits }
+{
+    let mut count = 0u32;
+    for (side, row) in steps {
+        let accepted = is_multiplied(alloc, m, qubits, *side, *row);
+        count = count.wrapping_add(u32::from(accepted));
+    }
+    count
+}
+
+/// The number of held nodes that a step tells which is refused for want of nodes.
+fn stopped(alloc: Global, m: &mut SlicedMatrix, qubits: u8) -> u32
+    requires { m.old.qubits ≡ qubits }
+    ensures { m.new.qubits ≡ qubits }
+{
+    let Some(gate) = gate_of(alloc, (Kind::H, 0, [0, 0, 0, 0]), qubits) else {
+        return 0;
+    };
+    match multiplied(alloc, m, Side::Left, &gate) {
+        Err(stop) if told(&stop).0 == 1 => told(&stop).1,
+        _ => 0,
+    }
+}
+
+/// What is done with the identity.
+#[derive(Clone, Copy)]
+enum Course {
+    /// One step of a kind.
+    Alone(Side, Kind),
+    /// The steps of a list.
+    Steps(&'static [(Side, Row)]),
+    /// A step that is refused.
+    Stop,
+    /// Each gate with so many further controls, from both sides.
+    Products(u8),
+}
+
+/// How many nodes a stop tells, or how many steps or entries are right.
+fn count(alloc: Global, m: &mut SlicedMatrix, qubits: u8, course: Course) -> u32
+    requires { m.old.qubits ≡ qubits }
+    ensures { m.new.qubits ≡ qubits }
+{
+    match course {
+        Course::Alone(side, kind) if qubits == 3 => alone(alloc, m, side, kind),
+        Course::Steps(steps) => each_step(alloc, m, qubits, steps),
+        Course::Stop => stopped(alloc, m, qubits),
+        Course::Products(controls) if qubits == 4 => each_product(alloc, m, controls),
+        _ => 0,
+    }
+}
+
+/// The entries at the first row and the next one, and at the first column and the next one.
+fn corner(m: &SlicedMatrix, qubits: u8) -> [Quad; 4]
+    requires some { 1 ≤ qubits }
+    requires few { qubits ≤ 64 }
+    requires qubits { m.now.qubits ≡ qubits }
+{
+    let zero = Bits::zeros(qubits);
+    let mut one = Bits::zeros(qubits);
+    one.set(qubits - 1, true);
+    [
         m.entry(&zero, &zero),
         m.entry(&zero, &one),
         m.entry(&one, &zero),
         m.entry(&one, &one),
-    )
+    ]
 }
 
-/// The entries on one qubit after a gate from the left and then one from the right.
-fn left_then_right(
-    rt: &impl Abort,
-    alloc: Global,
-    one: &Gate,
-    other: &Gate,
-) -> (Quad, Quad, Quad, Quad)
-    requires one { IsOn 1 one.now }
-    requires other { IsOn 1 other.now }
+/// What is counted, the number of variables, the exponent, how many steps are accepted, and the corner.
+type Shown = (u32, u8, u32, u32, [Quad; 4]);
+
+/// What is shown once a course is done.
+fn shown(alloc: Global, m: &mut SlicedMatrix, qubits: u8, course: Course) -> Shown
+    requires some { 1 ≤ qubits }
+    requires few { qubits ≤ 64 }
+    requires qubits { m.old.qubits ≡ qubits }
 {
-    let mut m = fresh(rt, alloc, 1);
-    left(rt, alloc, &mut m, one);
-    right(rt, alloc, &mut m, other);
-    four_entries(&m)
+    let count = count(alloc, m, qubits, course);
+    let (diagrams, _quad) = m.parts();
+    let variables = diagrams.store().order().len();
+    let corner = corner(m, qubits);
+    (count, variables, m.exponent(), m.accepted(), corner)
 }
 
-/// The entries on one qubit after a gate from the right and then one from the left.
-fn right_then_left(
-    rt: &impl Abort,
-    alloc: Global,
-    one: &Gate,
-    other: &Gate,
-) -> (Quad, Quad, Quad, Quad)
-    requires one { IsOn 1 one.now }
-    requires other { IsOn 1 other.now }
+/// The same of the identity with so many nodes, or the stop that tells their want.
+fn come(alloc: Global, qubits: u8, nodes: u32, course: Course) -> Result<Shown, (u32, u32)>
+    requires some { 1 ≤ qubits }
+    requires few { qubits ≤ 64 }
+    requires least { 64 ≤ nodes }
+    requires greatest { nodes ≤ 1048576 }
 {
-    let mut m = fresh(rt, alloc, 1);
-    right(rt, alloc, &mut m, one);
-    left(rt, alloc, &mut m, other);
-    four_entries(&m)
+    let mut m = begun(alloc, qubits, nodes)?;
+    let shown = shown(alloc, &mut m, qubits, course);
+    drop(m);
+    Ok(shown)
 }
 
-/// The entries on one qubit after two gates from the left.
-fn left_twice(rt: &impl Abort, alloc: Global, one: &Gate, other: &Gate) -> (Quad, Quad, Quad, Quad)
-    requires one { IsOn 1 one.now }
-    requires other { IsOn 1 other.now }
+/// The same with many nodes. None where there are too few.
+fn done(alloc: Global, qubits: u8, course: Course) -> Option<Shown>
+    requires some { 1 ≤ qubits }
+    requires few { qubits ≤ 64 }
 {
-    let mut m = fresh(rt, alloc, 1);
-    left(rt, alloc, &mut m, one);
-    left(rt, alloc, &mut m, other);
-    four_entries(&m)
+    come(alloc, qubits, 1_048_576, course).ok()
 }
+
+/// How many entries are right, and how many steps are accepted.
+fn counted(alloc: Global, qubits: u8, course: Course) -> Option<(u32, u32)>
+    requires some { 1 ≤ qubits }
+    requires few { qubits ≤ 64 }
+{
+    let (count, _, _, accepted, _) = done(alloc, qubits, course)?;
+    Some((count, accepted))
+}
+
+#[test]
+fn all_kinds_from_both_sides(rt: HostRuntime) {
+    for number in 0..26u32 {
+        let kind = kind_of(number);
+        let left = counted(rt.alloc(), 3, Course::Alone(Side::Left, kind));
+        let right = counted(rt.alloc(), 3, Course::Alone(Side::Right, kind));
+        assert!(rt; left == Some((64, 1)) && right == left, "{number}");
+    }
+}
+
+// 24 orders of the 26 kinds, of which 21 are of one qubit, and three of two. Which of several further controls comes first doesn't matter: a
+// gate does what its kind does where all are 1. Each order is tried all the same. Before them there are 16 steps, and each gate is undone.
+#[test]
+fn each_kind_in_products(rt: HostRuntime) {
+    let got = counted(rt.alloc(), 4, Course::Products(0));
+    assert!(rt; got == Some((2 * 24 * 26, 16 + 4 * 24 * 26)));
+}
+
+#[test]
+fn each_kind_under_one_further_control_in_products(rt: HostRuntime) {
+    let got = counted(rt.alloc(), 4, Course::Products(1));
+    assert!(rt; got == Some((2 * 24 * 26, 16 + 4 * 24 * 26)));
+}
+
+#[test]
+fn each_kind_under_two_further_controls_in_products(rt: HostRuntime) {
+    let got = counted(rt.alloc(), 4, Course::Products(2));
+    assert!(rt; got == Some((2 * 24 * 24, 16 + 4 * 24 * 24)));
+}
+
+#[test]
+fn each_kind_under_three_further_controls_in_products(rt: HostRuntime) {
+    let got = counted(rt.alloc(), 4, Course::Products(3));
+    assert!(rt; got == Some((2 * 24 * 21, 16 + 4 * 24 * 21)));
+}
+
+const T: Row = (Kind::T, 0, [0, 0, 0, 0]);
+
+const TDG: Row = (Kind::Tdg, 0, [0, 0, 0, 0]);
+
+const X: Row = (Kind::X, 0, [0, 0, 0, 0]);
+
+/// The entries of one qubit after two steps.
+fn pair(alloc: Global, steps: &'static [(Side, Row)]) -> Option<[Quad; 4]> {
+    let (count, _, _, _, corner) = done(alloc, 1, Course::Steps(steps))?;
+    if count == 2 { Some(corner) } else { None }
+}
+
+static LEFT_T_RIGHT_TDG: [(Side, Row); 2] = [(Side::Left, T), (Side::Right, TDG)];
+
+static RIGHT_TDG_LEFT_T: [(Side, Row); 2] = [(Side::Right, TDG), (Side::Left, T)];
 
 #[test]
 fn t_on_both_sides(rt: HostRuntime) {
-    let alloc = rt.alloc();
-    let t = single(alloc, Kind::T, 0, 1);
-    let tdg = single(alloc, Kind::Tdg, 0, 1);
-    let identity = (omega(0), Quad::ZERO, Quad::ZERO, omega(0));
-    assert_eq!(rt; left_then_right(&rt, alloc, &t, &tdg), identity);
-    assert_eq!(rt; right_then_left(&rt, alloc, &tdg, &t), identity);
+    let identity = Some([omega(0), Quad::ZERO, Quad::ZERO, omega(0)]);
+    let one = pair(rt.alloc(), &LEFT_T_RIGHT_TDG);
+    let other = pair(rt.alloc(), &RIGHT_TDG_LEFT_T);
+    assert!(rt; one == identity && other == identity);
 }
+
+static LEFT_X_RIGHT_T: [(Side, Row); 2] = [(Side::Left, X), (Side::Right, T)];
+
+static LEFT_X_LEFT_T: [(Side, Row); 2] = [(Side::Left, X), (Side::Left, T)];
 
 #[test]
 fn x_and_t_in_both_orders(rt: HostRuntime) {
-    let alloc = rt.alloc();
-    let x = single(alloc, Kind::X, 0, 1);
-    let t = single(alloc, Kind::T, 0, 1);
-    assert_eq!(rt;
-        left_then_right(&rt, alloc, &x, &t),
-        (Quad::ZERO, omega(1), omega(0), Quad::ZERO)
-    );
-    assert_eq!(rt;
-        left_twice(&rt, alloc, &x, &t),
-        (Quad::ZERO, omega(0), omega(1), Quad::ZERO)
-    );
+    let one = pair(rt.alloc(), &LEFT_X_RIGHT_T);
+    let other = pair(rt.alloc(), &LEFT_X_LEFT_T);
+    assert!(rt; one == Some([Quad::ZERO, omega(1), omega(0), Quad::ZERO]));
+    assert!(rt; other == Some([Quad::ZERO, omega(0), omega(1), Quad::ZERO]));
 }
 
 #[test]
 fn three_nodes_a_qubit(rt: HostRuntime) {
-    let alloc = rt.alloc();
-    let stop = SlicedMatrix::identity(alloc, 22, &with_nodes(65));
-    assert!(rt;
-        matches!(
-            stop,
-            Err(Stop::Nodes {
-                gate: 0,
-                held: 65,
-                ..
-            })
-        )
-    );
-    assert!(rt; SlicedMatrix::identity(alloc, 22, &with_nodes(66)).is_ok());
-    assert!(rt; SlicedMatrix::identity(alloc, 22, &with_nodes(67)).is_ok());
-}
-
-/// Multiplies from the left in vain, for want of a node more than 64.
-fn left_in_vain(rt: &impl Abort, alloc: Global, m: &mut SlicedMatrix, gate: &Gate)
-    requires { IsOn m.old.qubits gate.now }
-{
-    if m.accepted() >= 2_000_000 {
-        panic!(rt; "too many");
-    }
-    match m.left(alloc, gate) {
-        Err(
-            Stop::Nodes {
-                gate: 1,
-                held: 64,
-                ..
-            },
-        ) => {}
-        _ => panic!(rt; "no want of nodes"),
+    let stop = come(rt.alloc(), 22, 65, Course::Steps(&[]));
+    assert!(rt; matches!(stop, Err((0, 65))));
+    for nodes in 66..68u32 {
+        assert!(rt;
+            come(rt.alloc(), 22, nodes, Course::Steps(&[])).is_ok(),
+            "{nodes}"
+        );
     }
 }
 
-/// The identity on 21 qubits takes 63 nodes of 64.
+// The identity on 21 qubits takes 63 nodes of 64.
 #[test]
 fn a_step_without_room(rt: HostRuntime) {
-    let alloc = rt.alloc();
-    let h = single(alloc, Kind::H, 0, 21);
-    let mut m = roomy(&rt, alloc, 21, 64);
-    left_in_vain(&rt, alloc, &mut m, &h);
-    assert_eq!(rt; (m.accepted(), m.exponent()), (0, 0));
+    let got = come(rt.alloc(), 21, 64, Course::Stop);
+    assert!(rt; matches!(got, Ok((64, 42, 0, 0, _))));
 }
+
+const TURN: Row = (Kind::H, 0, [63, 0, 0, 0]);
+
+static TURNS: [(Side, Row); 2] = [(Side::Left, TURN), (Side::Right, TURN)];
 
 #[test]
 fn sixty_four_qubits(rt: HostRuntime) {
-    let alloc = rt.alloc();
-    let h = single(alloc, Kind::H, 63, 64);
-    let mut m = fresh(&rt, alloc, 64);
-    left(&rt, alloc, &mut m, &h);
-    right(&rt, alloc, &mut m, &h);
-    let zeros = Bits::zeros(64);
-    assert_eq!(rt; (m.entry(&zeros, &zeros), m.exponent()), (omega(0), 0));
-    let (diagrams, _quad) = m.parts();
-    assert_eq!(rt; diagrams.store().order().len(), 128);
+    let corner = [omega(0), Quad::ZERO, Quad::ZERO, omega(0)];
+    let got = done(rt.alloc(), 64, Course::Steps(&TURNS));
+    assert!(rt; got == Some((2, 128, 0, 2, corner)));
 }

@@ -2,21 +2,13 @@
 ghost use Rattle.std.specs.Prelude.{◌≡◌, ◌≤◌, All, length};
 ghost use Rattle.state_update.specs.Events.{IsWithin};
 
-use crate::state_tests::{ONE, fresh, refused_at};
+use crate::tools::{ONE, Row, applied, are_applied, begun, refused_at, zeros_of};
 use amp_dense::{Amplitudes, DenseState, Rules, Stop};
 use bit_lists::Bits;
 use gate_set::{Gate, Kind};
 use ring_omega::Quad;
 use state_update::{Event, EventStop, Report, SlicedState};
 use std::alloc::Global;
-use std::process::Abort;
-
-const ZERO: Quad = Quad {
-    a: 0,
-    b: 0,
-    c: 0,
-    d: 0,
-};
 
 /// H on the first qubit.
 fn hadamard(alloc: Global) -> Event
@@ -42,121 +34,159 @@ fn event(alloc: Global, number: u8) -> Event
     }
 }
 
-/// The basis state of two bits.
-fn two_bits(first: bool, second: bool) -> Bits
-    ensures { length result ≡ 2 }
-{
-    let mut x = Bits::zeros(2);
-    x.set(0, first);
-    x.set(1, second);
-    x
-}
+/// The entries of a state of at most two qubits, and the exponent.
+type Seen = ([Quad; 4], u32);
 
-/// The entries of a state of two qubits.
-fn entries<A: Amplitudes>(state: &A) -> [Quad; 4]
-    requires { length (A.standing state.now).input ≡ 2 }
+fn seen<A: Amplitudes>(state: &A, qubits: u8) -> Seen
+    requires few { qubits ≤ 2 }
+    requires input { length (A.standing state.now).input ≡ qubits }
 {
-    [
-        state.entry(&two_bits(false, false)),
-        state.entry(&two_bits(false, true)),
-        state.entry(&two_bits(true, false)),
-        state.entry(&two_bits(true, true)),
-    ]
+    let mut entries = [Quad::ZERO; 4];
+    for place in 0..4u8 {
+        if place < 1u8 << qubits {
+            entries[usize::from(place)] = state.entry(&Bits::at_place(u128::from(place), qubits));
+        }
+    }
+    (entries, state.exponent())
 }
 
 /// Runs a list of events on a state that accepted no gate yet.
 #[tactic(auto, using(state_update::proofs::RunLemmas::gates_few))]
-fn run(
-    rt: &impl Abort,
-    alloc: Global,
-    state: &mut SlicedState,
-    list: &[Event],
-) -> Result<Vec<Report>, EventStop>
+fn run(alloc: Global, state: &mut SlicedState, list: &[Event]) -> Result<Vec<Report>, EventStop>
     requires within { All (IsWithin (length state.old.input)) list.now }
     requires few { length list.now ≤ 5 }
     ensures { state.new.input ≡ state.old.input }
 {
-    let accepted = state.accepted();
-    assert!(rt; accepted == 0);
+    if state.accepted() != 0 {
+        let stop = Stop::OutOfMemory;
+        return Err(EventStop { at: 0, stop });
+    }
     let answer = state.run_events(alloc, list);
     answer
 }
 
-/// Applies the gate of an event, if it is one.
-fn apply_gate_of(rt: &impl Abort, alloc: Global, state: &mut DenseState, e: &Event)
-    requires { IsWithin (length state.old.input) e.now }
-    ensures { state.new.input ≡ state.old.input }
-{
-    if let Event::Gate(gate) = e {
-        assert_eq!(rt; refused_at(alloc, state, gate), 0);
+/// How many reports there are, and whether the third one is of a cache that was forgotten; or the event that stopped, and at which gate the
+/// width was refused.
+type Ran = Result<(usize, bool), (u32, u32)>;
+
+fn ran_from(answer: Result<Vec<Report>, EventStop>) -> Ran {
+    match answer {
+        Ok(reports) => {
+            let forgotten = matches!(reports.get(2), Some(Report::Forgotten));
+            Ok((reports.len(), forgotten))
+        }
+        Err(EventStop { at, stop }) => Err((at, refused_at(&Err(stop)))),
     }
 }
 
-/// The events leave the entries of their gates alone, with one report each.
-fn expect_gates_alone(rt: &impl Abort, alloc: Global, list: &[Event])
+/// What comes of a list of events on a state of so many qubits.
+fn ran(alloc: Global, state: &mut SlicedState, qubits: u8, list: &[Event]) -> (Ran, Seen)
+    requires qubits { qubits ≤ 2 }
+    requires input { length state.old.input ≡ qubits }
+    requires within { All (IsWithin qubits) list.now }
+    requires few { length list.now ≤ 5 }
+{
+    let answer = run(alloc, state, list);
+    let seen = seen(state, qubits);
+    (ran_from(answer), seen)
+}
+
+/// The same of a state that begins with zeros.
+fn ran_once(alloc: Global, qubits: u8, rules: &Rules, list: &[Event]) -> Option<(Ran, Seen)>
+    requires qubits { qubits ≤ 2 }
+    requires within { All (IsWithin qubits) list.now }
+    requires few { length list.now ≤ 5 }
+{
+    let mut state: SlicedState = begun(alloc, &zeros_of(qubits), rules)?;
+    let got = ran(alloc, &mut state, qubits, list);
+    drop(state);
+    Some(got)
+}
+
+/// Applies the gate of an event, if it is one. Whether it is accepted.
+fn is_done<A: Amplitudes>(alloc: Global, state: &mut A, e: &Event) -> bool
+    requires { IsWithin (length (A.standing state.old).input) e.now }
+    ensures { (A.standing state.new).input ≡ (A.standing state.old).input }
+{
+    match e {
+        Event::Gate(gate) => applied(alloc, state, gate).is_ok(),
+        _ => true,
+    }
+}
+
+/// Applies the gates of a list of events. What is seen then.
+fn plain<A: Amplitudes>(alloc: Global, state: &mut A, list: &[Event]) -> Option<Seen>
+    requires input { length (A.standing state.old).input ≡ 2 }
+    requires within { All (IsWithin 2) list.now }
+{
+    'events: for e in list {
+        if !is_done(alloc, state, e) {
+            return None;
+        }
+    }
+    Some(seen(state, 2))
+}
+
+/// The same of a state that begins with zeros.
+fn plain_once<A: Amplitudes + Drop>(alloc: Global, list: &[Event]) -> Option<Seen>
+    requires most { 2 ≤ A.MOST }
+    requires within { All (IsWithin 2) list.now }
+{
+    let mut state: A = begun(alloc, &zeros_of(2), &Rules::usual())?;
+    let got = plain(alloc, &mut state, list);
+    drop(state);
+    got
+}
+
+/// Whether the events leave the entries of their gates alone, with one report each.
+fn are_gates_alone(alloc: Global, list: &[Event]) -> bool
     requires within { All (IsWithin 2) list.now }
     requires few { length list.now ≤ 3 }
 {
-    let mut state = fresh(rt, alloc, 2, &Rules::usual());
-    let Ok(reports) = run(rt, alloc, &mut state, list) else {
-        panic!(rt; "stopped");
-    };
-    assert_eq!(rt; reports.len(), list.len());
-    let Ok(mut plain) = DenseState::start(alloc, &two_bits(false, false), &Rules::usual()) else {
-        panic!(rt; "no memory");
-    };
-    'events: for e in list {
-        apply_gate_of(rt, alloc, &mut plain, e);
+    let got = ran_once(alloc, 2, &Rules::usual(), list);
+    match (got, plain_once::<DenseState>(alloc, list)) {
+        (Some((Ok((reports, _)), seen)), Some(wanted)) => {
+            reports == list.len() && seen == wanted
+        }
+        _ => false,
     }
-    assert_eq!(rt; entries(&state), entries(&plain));
-    assert_eq!(rt; state.exponent(), plain.exponent());
 }
 
-fn expect_one(rt: &impl Abort, alloc: Global, a: Event)
-    requires { IsWithin 2 a }
-{
-    expect_gates_alone(rt, alloc, &[a]);
+fn is_right_one(alloc: Global, a: u8) -> bool {
+    let list = [event(alloc, a)];
+    are_gates_alone(alloc, &list)
 }
 
-fn expect_two(rt: &impl Abort, alloc: Global, a: Event, b: Event)
-    requires a { IsWithin 2 a }
-    requires b { IsWithin 2 b }
-{
-    expect_gates_alone(rt, alloc, &[a, b]);
+fn is_right_two(alloc: Global, a: u8, b: u8) -> bool {
+    let list = [event(alloc, a), event(alloc, b)];
+    are_gates_alone(alloc, &list)
 }
 
-fn expect_three(rt: &impl Abort, alloc: Global, a: Event, b: Event, c: Event)
-    requires a { IsWithin 2 a }
-    requires b { IsWithin 2 b }
-    requires c { IsWithin 2 c }
-{
-    expect_gates_alone(rt, alloc, &[a, b, c]);
+fn is_right_three(alloc: Global, a: u8, b: u8, c: u8) -> bool {
+    let list = [event(alloc, a), event(alloc, b), event(alloc, c)];
+    are_gates_alone(alloc, &list)
+}
+
+/// How many lists of these first two events are right: the first one alone, both, and with each third one.
+fn each_third(alloc: Global, a: u8, b: u8) -> u32 {
+    let mut count = u32::from(is_right_one(alloc, a));
+    count = count.wrapping_add(u32::from(is_right_two(alloc, a, b)));
+    for c in 0..8u8 {
+        count = count.wrapping_add(u32::from(is_right_three(alloc, a, b, c)));
+    }
+    count
 }
 
 #[test]
 fn lists_of_up_to_three_events(rt: HostRuntime) {
-    let alloc = rt.alloc();
-    for a in 0..8u8 {
-        expect_one(&rt, alloc, event(alloc, a));
-        for b in 0..8u8 {
-            expect_two(&rt, alloc, event(alloc, a), event(alloc, b));
-            for c in 0..8u8 {
-                expect_three(
-                    &rt,
-                    alloc,
-                    event(alloc, a),
-                    event(alloc, b),
-                    event(alloc, c),
-                );
-            }
-        }
+    for pair in 0..64u8 {
+        let got = each_third(rt.alloc(), pair / 8, pair % 8);
+        assert!(rt; got == 10, "{pair}");
     }
 }
 
-#[test]
-fn upkeep_events(rt: HostRuntime) {
-    let alloc = rt.alloc();
-    let mut state = fresh(&rt, alloc, 1, &Rules::usual());
+/// Two turns of one qubit with upkeep between them.
+fn upkept(alloc: Global) -> Option<(Ran, Seen)> {
     let first = hadamard(alloc);
     let last = hadamard(alloc);
     let list = [
@@ -166,42 +196,17 @@ fn upkeep_events(rt: HostRuntime) {
         Event::SiftAll,
         last,
     ];
-    let Ok(reports) = run(&rt, alloc, &mut state, &list) else {
-        panic!(rt; "stopped");
-    };
-    assert_eq!(rt; reports.len(), 5);
-    assert!(rt; matches!(reports.get(2), Some(Report::Forgotten)));
-    let zero = Bits::zeros(1);
-    let mut one = Bits::zeros(1);
-    one.set(0, true);
-    assert_eq!(rt; (state.entry(&zero), state.entry(&one)), (ONE, ZERO));
-    assert_eq!(rt; state.exponent(), 0);
+    ran_once(alloc, 1, &Rules::usual(), &list)
 }
 
 #[test]
-fn upkeep_swap(rt: HostRuntime) {
-    let alloc = rt.alloc();
-    let mut state = fresh(&rt, alloc, 2, &Rules::usual());
-    let first = Gate::new(alloc, Kind::H, &[0]);
-    let second = Gate::new(alloc, Kind::Cx, &[0, 1]);
-    assert_eq!(rt; refused_at(alloc, &mut state, &first), 0);
-    assert_eq!(rt; refused_at(alloc, &mut state, &second), 0);
-    let accepted = state.accepted();
-    assert!(rt; accepted == 2);
-    let (d, _) = state.parts();
-    assert!(rt; d.cached() >= 1);
-    let before = entries(&state);
-    assert_eq!(rt; before, [ONE, ZERO, ZERO, ONE]);
-    let Ok(report) = state.upkeep(alloc, &Event::Swap(0)) else {
-        panic!(rt; "no memory");
-    };
-    assert!(rt; matches!(report, Report::Swapped));
-    assert_eq!(rt; entries(&state), before);
+fn upkeep_events(rt: HostRuntime) {
+    let seen = ([ONE, Quad::ZERO, Quad::ZERO, Quad::ZERO], 0);
+    assert!(rt; upkept(rt.alloc()) == Some((Ok((5, true)), seen)));
 }
 
-#[test]
-fn width_inside_a_list(rt: HostRuntime) {
-    let alloc = rt.alloc();
+/// Two turns of the first of two qubits with a swap between them and a reclaim behind them, by a width of 2.
+fn narrow(alloc: Global) -> Option<(Ran, Seen)> {
     let rules = Rules {
         width: 2,
         nodes: 64,
@@ -209,15 +214,49 @@ fn width_inside_a_list(rt: HostRuntime) {
         reclaim: 0,
         sift: 0,
     };
-    let mut state = fresh(&rt, alloc, 2, &rules);
     let first = hadamard(alloc);
     let second = hadamard(alloc);
     let list = [first, Event::Swap(0), second, Event::Reclaim];
-    let Err(stop) = run(&rt, alloc, &mut state, &list) else {
-        panic!(rt; "not stopped");
-    };
-    assert_eq!(rt; stop.at, 2);
-    assert!(rt; matches!(stop.stop, Stop::Width { gate: 2 }));
-    assert_eq!(rt; entries(&state), [ONE, ZERO, ONE, ZERO]);
-    assert_eq!(rt; state.exponent(), 1);
+    ran_once(alloc, 2, &rules, &list)
+}
+
+#[test]
+fn width_inside_a_list(rt: HostRuntime) {
+    let seen = ([ONE, Quad::ZERO, ONE, Quad::ZERO], 1);
+    assert!(rt; narrow(rt.alloc()) == Some((Err((2, 2)), seen)));
+}
+
+/// A pair of entangled qubits.
+static PAIR: [Row; 2] = [(Kind::H, [0, 1, 2]), (Kind::Cx, [0, 1, 2])];
+
+/// Whether some answers are cached, what is seen, whether the two variables are swapped, and what is seen then.
+type Swapped = (bool, Seen, bool, Seen);
+
+/// What comes of a swap of a pair.
+fn swapped(alloc: Global, state: &mut SlicedState) -> Option<Swapped>
+    requires { length state.old.input ≡ 2 }
+{
+    if !are_applied(alloc, state, &PAIR, 2) || state.accepted() != 2 {
+        return None;
+    }
+    let (diagrams, _quad) = state.parts();
+    let cached = diagrams.cached() >= 1;
+    let before = seen(state, 2);
+    let report = state.upkeep(alloc, &Event::Swap(0));
+    let done = matches!(report, Ok(Report::Swapped));
+    Some((cached, before, done, seen(state, 2)))
+}
+
+/// The same of a state that begins with zeros.
+fn swapped_once(alloc: Global) -> Option<Swapped> {
+    let mut state: SlicedState = begun(alloc, &zeros_of(2), &Rules::usual())?;
+    let got = swapped(alloc, &mut state);
+    drop(state);
+    got
+}
+
+#[test]
+fn upkeep_swap(rt: HostRuntime) {
+    let seen = ([ONE, Quad::ZERO, Quad::ZERO, ONE], 1);
+    assert!(rt; swapped_once(rt.alloc()) == Some((true, seen, true, seen)));
 }

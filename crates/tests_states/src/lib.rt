@@ -4,14 +4,12 @@
 #[cfg(test)]
 mod event_tests;
 #[cfg(test)]
-mod limit_tests;
+mod four_tests;
 #[cfg(test)]
-mod long_tests;
+mod limit_tests;
 #[cfg(test)]
 mod sift_tests;
 #[cfg(test)]
 mod state_tests;
 #[cfg(test)]
-mod walk_tests;
-#[cfg(test)]
-mod weighing_tests;
+mod tools;

@@ -1,443 +1,153 @@
-//! The state on integers over diagrams against the dense one, and states of 64 qubits.
-ghost use Rattle.std.specs.Prelude.{◌≡◌, ◌≢◌, ◌≤◌, ◌<◌, ℕ, length};
-ghost use Rattle.gate_set.specs.Matrix.{IsKind};
+//! States of one qubit, of forty and of sixty-four.
+ghost use Rattle.std.specs.Prelude.{◌≡◌, ◌≤◌, length, IfSome};
 ghost use Rattle.gate_set.specs.Shape.{IsOn};
 
-use amp_dense::{Amplitudes, DenseState, Rules, Stop};
-use bit_lists::Bits;
+use crate::tools::{ONE, Row, applied, begun, gate_on, held, is_applied, placed, zeros_of};
+use amp_dense::{Amplitudes, Rules, Stop};
+use bit_lists::{Bits, Partial};
 use gate_set::{Gate, Kind};
-use ring_omega::Quad;
+use probabilities::{Weigh, WeighStop};
+use ring_omega::{Quad, Weight};
 use state_update::SlicedState;
 use std::alloc::Global;
-use std::process::Abort;
 
-pub(crate) const ONE: Quad = Quad {
-    a: 0,
-    b: 0,
-    c: 0,
-    d: 1,
-};
+/// A basis state, if there is one: its place, and how many bits it has.
+type Placed = Option<(u128, u8)>;
 
-/// The kind at a place of the list of all kinds, a phase last.
-pub(crate) fn kind_at(place: u8) -> Kind
-    ensures { IsKind result }
+/// The basis state of one qubit after the given one whose entry isn't zero.
+fn next_one<A: Amplitudes>(alloc: Global, state: &A, after: &Bits) -> Option<Placed>
+    requires { length after.now ≡ length (A.standing state.now).input }
 {
-    match place {
-        0 => Kind::H,
-        1 => Kind::T,
-        2 => Kind::RxP,
-        3 => Kind::Cx,
-        4 => Kind::RyM,
-        5 => Kind::Tdg,
-        6 => Kind::Cswap,
-        7 => Kind::S,
-        8 => Kind::Y,
-        9 => Kind::Swap,
-        10 => Kind::RxM,
-        11 => Kind::Cz,
-        12 => Kind::Sdg,
-        13 => Kind::Ccx,
-        14 => Kind::RyP,
-        15 => Kind::X,
-        16 => Kind::Z,
-        17 => Kind::Id,
-        _ => Kind::Phase(3),
-    }
+    let next = state.next_nonzero(alloc, Some(after)).ok()?;
+    Some(placed(next))
 }
 
-const PLACEMENTS: [(u8, u8, u8); 24] = [
-    (0, 1, 2),
-    (0, 1, 3),
-    (0, 2, 1),
-    (0, 2, 3),
-    (0, 3, 1),
-    (0, 3, 2),
-    (1, 0, 2),
-    (1, 0, 3),
-    (1, 2, 0),
-    (1, 2, 3),
-    (1, 3, 0),
-    (1, 3, 2),
-    (2, 0, 1),
-    (2, 0, 3),
-    (2, 1, 0),
-    (2, 1, 3),
-    (2, 3, 0),
-    (2, 3, 1),
-    (3, 0, 1),
-    (3, 0, 2),
-    (3, 1, 0),
-    (3, 1, 2),
-    (3, 2, 0),
-    (3, 2, 1),
-];
-
-/// The usual rules with another width.
-fn of_width(width: u8) -> Rules
-    requires least { 2 ≤ width }
-    requires greatest { width ≤ 128 }
+/// The first one of all, and those after the two basis states.
+fn next_ones<A: Amplitudes>(alloc: Global, state: &A) -> Option<(Placed, Placed, Placed)>
+    requires { length (A.standing state.now).input ≡ 1 }
 {
-    Rules {
-        width,
-        nodes: 1_048_576,
-        cache: 65_536,
-        reclaim: 16,
-        sift: 0,
-    }
+    let first = state.next_nonzero(alloc, None).ok()?;
+    let second = next_one(alloc, state, &Bits::at_place(0, 1))?;
+    let third = next_one(alloc, state, &Bits::at_place(1, 1))?;
+    Some((placed(first), second, third))
 }
 
-/// The list of so many zeros.
-fn zeros_of(len: u8) -> Bits
-    requires { len ≤ 128 }
-    ensures { length result ≡ len }
+/// The same once the qubit is turned.
+fn turned<A: Amplitudes>(alloc: Global, state: &mut A) -> Option<(Placed, Placed, Placed)>
+    requires { length (A.standing state.old).input ≡ 1 }
 {
-    Bits::zeros(len)
-}
-
-/// The state of all zeros.
-pub(crate) fn fresh(rt: &impl Abort, alloc: Global, qubits: u8, rules: &Rules) -> SlicedState
-    requires { qubits ≤ 64 }
-    ensures { length result.input ≡ qubits }
-{
-    let Ok(state) = SlicedState::start(alloc, &Bits::zeros(qubits), rules) else {
-        panic!(rt; "no memory");
-    };
-    state
-}
-
-/// The gate on the first of three qubits, as many as its kind asks for.
-pub(crate) fn placed(alloc: Global, kind: Kind, a: u8, b: u8, c: u8) -> Gate
-    requires kind { IsKind kind }
-    requires a { a < 64 }
-    requires b { b < 64 }
-    requires c { c < 64 }
-    requires ab { a ≢ b }
-    requires ac { a ≢ c }
-    requires bc { b ≢ c }
-    ensures { (n : ℕ) → a < n → b < n → c < n → IsOn n result }
-{
-    match kind.arity() {
-        1 => Gate::new(alloc, kind, &[a]),
-        2 => Gate::new(alloc, kind, &[a, b]),
-        _ => Gate::new(alloc, kind, &[a, b, c]),
-    }
-}
-
-/// The gate on the first of four qubits, as many as its kind asks for, and the others as further controls.
-fn guarded(alloc: Global, kind: Kind, a: u8, b: u8, c: u8, d: u8) -> Gate
-    requires kind { IsKind kind }
-    requires a { a < 4 }
-    requires b { b < 4 }
-    requires c { c < 4 }
-    requires d { d < 4 }
-    requires ab { a ≢ b }
-    requires ac { a ≢ c }
-    requires ad { a ≢ d }
-    requires bc { b ≢ c }
-    requires bd { b ≢ d }
-    requires cd { c ≢ d }
-    ensures { IsOn 4 result }
-{
-    match kind.arity() {
-        1 => Gate::controlled(alloc, &[b, c, d], kind, &[a]),
-        2 => Gate::controlled(alloc, &[c, d], kind, &[a, b]),
-        _ => Gate::controlled(alloc, &[d], kind, &[a, b, c]),
-    }
-}
-
-/// The gate on a qubit of four or more, and on others where its kind asks for more.
-pub(crate) fn single(alloc: Global, kind: Kind, q: u8) -> Gate
-    requires kind { IsKind kind }
-    requires qubit { q < 64 }
-    ensures { (n : ℕ) → q < n → 4 ≤ n → IsOn n result }
-{
-    if q < 2 {
-        placed(alloc, kind, q, 2, 3)
+    if is_applied(alloc, state, (Kind::H, [0, 0, 0]), 1) {
+        next_ones(alloc, state)
     } else {
-        placed(alloc, kind, q, 0, 1)
+        None
     }
 }
 
-/// Applies a gate. The answer is where the width was refused, or 0.
-pub(crate) fn refused_at<A: Amplitudes>(alloc: Global, state: &mut A, gate: &Gate) -> u32
-    requires { IsOn (length (A.standing state.old).input) gate.now }
-    ensures { (A.standing state.new).input ≡ (A.standing state.old).input }
+/// The same of a state that begins with 0.
+fn turned_once<A: Amplitudes + Drop>(alloc: Global) -> Option<(Placed, Placed, Placed)>
+    requires { 1 ≤ A.MOST }
 {
-    if state.accepted() >= 2_000_000 {
-        return u32::MAX;
-    }
-    match state.apply(alloc, gate) {
-        Ok(()) => 0,
-        Err(Stop::Width { gate }) => gate,
-        Err(_) => u32::MAX,
-    }
-}
-
-/// The list of four bits of a number.
-fn four_bits(number: u8) -> Bits
-    ensures { length result ≡ 4 }
-{
-    let mut x = Bits::zeros(4);
-    x.set(0, number & 8 != 0);
-    x.set(1, number & 4 != 0);
-    x.set(2, number & 2 != 0);
-    x.set(3, number & 1 != 0);
-    x
-}
-
-/// The two states on 4 qubits have the same entries and exponent.
-fn expect_same(rt: &impl Abort, sliced: &SlicedState, dense: &DenseState)
-    requires sliced { length sliced.now.input ≡ 4 }
-    requires dense { length dense.now.input ≡ 4 }
-{
-    assert_eq!(rt; sliced.exponent(), dense.exponent());
-    for number in 0..16u8 {
-        let x = four_bits(number);
-        assert_eq!(rt; sliced.entry(&x), dense.entry(&x));
-    }
-}
-
-/// Applies all kinds on three qubits, and compares the two states after each.
-fn apply_kinds(
-    rt: &impl Abort,
-    alloc: Global,
-    sliced: &mut SlicedState,
-    dense: &mut DenseState,
-    on: (u8, u8, u8),
-)
-    requires sliced { length sliced.old.input ≡ 4 }
-    requires dense { length dense.old.input ≡ 4 }
-    requires a { on.0 < 4 }
-    requires b { on.1 < 4 }
-    requires c { on.2 < 4 }
-    requires ab { on.0 ≢ on.1 }
-    requires ac { on.0 ≢ on.2 }
-    requires bc { on.1 ≢ on.2 }
-    ensures sliced { length sliced.new.input ≡ 4 }
-    ensures dense { length dense.new.input ≡ 4 }
-{
-    for place in 0..19u8 {
-        let gate = placed(alloc, kind_at(place), on.0, on.1, on.2);
-        assert_eq!(rt; refused_at(alloc, sliced, &gate), 0);
-        assert_eq!(rt; refused_at(alloc, dense, &gate), 0);
-        expect_same(rt, sliced, dense);
-    }
-}
-
-#[test]
-fn all_kinds_on_all_placements_of_four_qubits(rt: HostRuntime) {
-    let alloc = rt.alloc();
-    let zeros = Bits::zeros(4);
-    let Ok(mut sliced) = SlicedState::start(alloc, &zeros, &Rules::usual()) else {
-        panic!(rt; "no memory");
-    };
-    let Ok(mut dense) = DenseState::start(alloc, &zeros, &Rules::usual()) else {
-        panic!(rt; "no memory");
-    };
-    for (a, b, c) in PLACEMENTS {
-        if a < 4 && b < 4 && c < 4 && a != b && a != c && b != c {
-            apply_kinds(&rt, alloc, &mut sliced, &mut dense, (a, b, c));
-        }
-    }
-    assert_eq!(rt; sliced.accepted(), 24 * 19);
-}
-
-/// Applies all kinds on the first of four qubits, the others as further controls, and compares the two states after each.
-fn apply_guarded(
-    rt: &impl Abort,
-    alloc: Global,
-    sliced: &mut SlicedState,
-    dense: &mut DenseState,
-    on: (u8, u8, u8, u8),
-)
-    requires sliced { length sliced.old.input ≡ 4 }
-    requires dense { length dense.old.input ≡ 4 }
-    requires a { on.0 < 4 }
-    requires b { on.1 < 4 }
-    requires c { on.2 < 4 }
-    requires d { on.3 < 4 }
-    requires ab { on.0 ≢ on.1 }
-    requires ac { on.0 ≢ on.2 }
-    requires ad { on.0 ≢ on.3 }
-    requires bc { on.1 ≢ on.2 }
-    requires bd { on.1 ≢ on.3 }
-    requires cd { on.2 ≢ on.3 }
-    ensures sliced { length sliced.new.input ≡ 4 }
-    ensures dense { length dense.new.input ≡ 4 }
-{
-    for place in 0..19u8 {
-        let gate = guarded(alloc, kind_at(place), on.0, on.1, on.2, on.3);
-        let refused = (
-            refused_at(alloc, sliced, &gate),
-            refused_at(alloc, dense, &gate),
-        );
-        assert_eq!(rt; refused, (0, 0));
-        expect_same(rt, sliced, dense);
-    }
-}
-
-/// Puts four qubits into an even mixture of all states.
-fn spread(rt: &impl Abort, alloc: Global, sliced: &mut SlicedState, dense: &mut DenseState)
-    requires sliced { length sliced.old.input ≡ 4 }
-    requires dense { length dense.old.input ≡ 4 }
-    ensures sliced { length sliced.new.input ≡ 4 }
-    ensures dense { length dense.new.input ≡ 4 }
-{
-    for q in 0..4u8 {
-        let gate = single(alloc, Kind::H, q);
-        let refused = (
-            refused_at(alloc, sliced, &gate),
-            refused_at(alloc, dense, &gate),
-        );
-        assert_eq!(rt; refused, (0, 0));
-    }
-}
-
-#[test]
-fn all_kinds_under_further_controls(rt: HostRuntime) {
-    let alloc = rt.alloc();
-    let zeros = Bits::zeros(4);
-    let Ok(mut sliced) = SlicedState::start(alloc, &zeros, &Rules::usual()) else {
-        panic!(rt; "no memory");
-    };
-    let Ok(mut dense) = DenseState::start(alloc, &zeros, &Rules::usual()) else {
-        panic!(rt; "no memory");
-    };
-    spread(&rt, alloc, &mut sliced, &mut dense);
-    for (a, b, c) in PLACEMENTS {
-        let d = 6u8.saturating_sub(a).saturating_sub(b).saturating_sub(c);
-        if a < 4
-            && b < 4
-            && c < 4
-            && d < 4
-            && a != b
-            && a != c
-            && b != c
-            && d != a
-            && d != b
-            && d != c
-        {
-            apply_guarded(&rt, alloc, &mut sliced, &mut dense, (a, b, c, d));
-        }
-    }
-    assert_eq!(rt; sliced.accepted(), 4 + 24 * 19);
-}
-
-/// H, T and Cx in turn.
-fn widening(turn: usize) -> Kind
-    ensures { IsKind result }
-{
-    match turn % 3 {
-        0 => Kind::H,
-        1 => Kind::T,
-        _ => Kind::Cx,
-    }
-}
-
-/// Applies H and T in turn to the first of 4 qubits, and Cx to the second, until the width is refused. The answer
-/// is where, or 0.
-fn until_refused<A: Amplitudes>(alloc: Global, state: &mut A) -> u32
-    requires { length (A.standing state.old).input ≡ 4 }
-    ensures { (A.standing state.new).input ≡ (A.standing state.old).input }
-{
-    for turn in 0..120usize {
-        let refused = refused_at(alloc, state, &placed(alloc, widening(turn), 0, 1, 2));
-        if refused != 0 {
-            return refused;
-        }
-    }
-    0
-}
-
-#[test]
-fn width_stops_at_each_width(rt: HostRuntime) {
-    let alloc = rt.alloc();
-    let zeros = Bits::zeros(4);
-    for width in 2..9u8 {
-        let rules = of_width(width);
-        let Ok(mut sliced) = SlicedState::start(alloc, &zeros, &rules) else {
-            panic!(rt; "no memory");
-        };
-        let Ok(mut dense) = DenseState::start(alloc, &zeros, &rules) else {
-            panic!(rt; "no memory");
-        };
-        let refused = until_refused(alloc, &mut dense);
-        assert!(rt; refused != 0 && refused != u32::MAX);
-        assert_eq!(rt; until_refused(alloc, &mut sliced), refused);
-        expect_same(&rt, &sliced, &dense);
-    }
-}
-
-/// The first bit of a list that was found, and None where there was none.
-fn first_bit(found: Option<Bits>) -> Option<bool> {
-    let x = found?;
-    if x.is_empty() { None } else { Some(x.get(0)) }
+    let mut state: A = begun(alloc, &zeros_of(1), &Rules::usual())?;
+    let got = turned(alloc, &mut state);
+    drop(state);
+    got
 }
 
 #[test]
 fn walk_of_nonzero(rt: HostRuntime) {
-    let alloc = rt.alloc();
-    let zero = Bits::zeros(1);
-    let mut one = zero;
-    one.set(0, true);
-    let Ok(mut state) = SlicedState::start(alloc, &zero, &Rules::usual()) else {
-        panic!(rt; "no memory");
-    };
-    let gate = Gate::new(alloc, Kind::H, &[0]);
-    assert_eq!(rt; refused_at(alloc, &mut state, &gate), 0);
-    assert_eq!(rt;
-        state.next_nonzero(alloc, None).map(first_bit),
-        Ok(Some(false))
-    );
-    assert_eq!(rt;
-        state.next_nonzero(alloc, Some(&zero)).map(first_bit),
-        Ok(Some(true))
-    );
-    assert_eq!(rt;
-        state.next_nonzero(alloc, Some(&one)).map(first_bit),
-        Ok(None)
-    );
+    let want = (Some((0, 1)), Some((1, 1)), None);
+    assert!(rt; turned_once::<SlicedState>(rt.alloc()) == Some(want));
 }
 
-/// Whether all bits are set.
-fn are_all_set(x: &Bits) -> bool {
-    for place in 0..x.len() {
-        if !x.get(place) {
-            return false;
-        }
+/// Applies an H to the first of 64 qubits, and then a Cx from each to the next one. Whether all are accepted.
+fn are_chained<A: Amplitudes>(alloc: Global, state: &mut A) -> bool
+    requires { length (A.standing state.old).input ≡ 64 }
+    ensures { length (A.standing state.new).input ≡ 64 }
+{
+    let mut all = is_applied(alloc, state, (Kind::H, [0, 0, 0]), 64);
+    for q in 0..63u8 {
+        all = is_applied(alloc, state, (Kind::Cx, [q, q + 1, 0]), 64) && all;
     }
-    true
+    all
+}
+
+/// The entry of 64 qubits at a basis state, if there is one.
+fn entry_at<A: Amplitudes>(state: &A, x: Option<Bits>) -> Option<(u128, Quad)>
+    requires { length (A.standing state.now).input ≡ 64 }
+{
+    let x = x?;
+    if x.len() == 64 {
+        Some((x.place(), state.entry(&x)))
+    } else {
+        None
+    }
+}
+
+/// How many gates are accepted, the exponent, the first entry, and the next one that isn't zero with its place.
+type Chained = (u32, u32, Quad, Option<(u128, Quad)>);
+
+/// What comes of the chain.
+fn chained<A: Amplitudes>(alloc: Global, state: &mut A) -> Option<Chained>
+    requires { length (A.standing state.old).input ≡ 64 }
+{
+    if !are_chained(alloc, state) {
+        return None;
+    }
+    let zeros = zeros_of(64);
+    let next = state.next_nonzero(alloc, Some(&zeros)).ok()?;
+    let second = entry_at(state, next);
+    Some((
+        state.accepted(),
+        state.exponent(),
+        state.entry(&zeros),
+        second,
+    ))
+}
+
+/// The same of a state that begins with zeros.
+fn chained_once<A: Amplitudes + Drop>(alloc: Global) -> Option<Chained>
+    requires { 64 ≤ A.MOST }
+{
+    let mut state: A = begun(alloc, &zeros_of(64), &Rules::usual())?;
+    let got = chained(alloc, &mut state);
+    drop(state);
+    got
 }
 
 #[test]
 fn sixty_four_qubits_in_two_states(rt: HostRuntime) {
-    let alloc = rt.alloc();
-    let zeros = zeros_of(64);
-    let mut state = fresh(&rt, alloc, 64, &Rules::usual());
-    let gate = single(alloc, Kind::H, 0);
-    assert_eq!(rt; refused_at(alloc, &mut state, &gate), 0);
-    for place in 0..63u8 {
-        let other = if place < 2 { 3 } else { 0 };
-        let gate = placed(alloc, Kind::Cx, place, place + 1, other);
-        assert_eq!(rt; refused_at(alloc, &mut state, &gate), 0);
-    }
-    assert_eq!(rt; state.accepted(), 64);
-    assert_eq!(rt; state.exponent(), 1);
-    assert_eq!(rt; state.entry(&zeros), ONE);
-    let Ok(Some(ones)) = state.next_nonzero(alloc, Some(&zeros)) else {
-        panic!(rt; "a second state is missing");
-    };
-    if ones.len() != 64 {
-        panic!(rt; "not 64 bits");
-    }
-    assert!(rt; are_all_set(&ones));
-    assert_eq!(rt; state.entry(&ones), ONE);
+    let ones = u128::from(u64::MAX);
+    let want = (64, 1, ONE, Some((ones, ONE)));
+    assert!(rt; chained_once::<SlicedState>(rt.alloc()) == Some(want));
 }
 
-#[test]
-fn a_full_store_leaves_the_state(rt: HostRuntime) {
-    let alloc = rt.alloc();
-    let zeros = zeros_of(64);
+/// Whether a stop is for want of nodes at the first gate, with 64 held.
+fn is_full(answer: &Result<(), Stop>) -> bool {
+    match answer {
+        Err(Stop::Nodes { gate, held, .. }) => *gate == 1 && *held == 64,
+        _ => false,
+    }
+}
+
+/// Whether a turn of the first of 64 qubits is refused for want of nodes; how many nodes are held, how many gates are accepted, the exponent,
+/// and the first entry.
+fn filled(alloc: Global, state: &mut SlicedState) -> Option<(bool, u32, u32, u32, Quad)>
+    requires { length state.old.input ≡ 64 }
+{
+    let gate = gate_on(alloc, (Kind::H, [0, 0, 0]), 64)?;
+    let refused = is_full(&applied(alloc, state, &gate));
+    let first = state.entry(&zeros_of(64));
+    Some((
+        refused,
+        held(state),
+        state.accepted(),
+        state.exponent(),
+        first,
+    ))
+}
+
+/// The same of a state with 64 nodes.
+fn filled_once(alloc: Global) -> Option<(bool, u32, u32, u32, Quad)> {
     let rules = Rules {
         width: 128,
         nodes: 64,
@@ -445,11 +155,167 @@ fn a_full_store_leaves_the_state(rt: HostRuntime) {
         reclaim: 16,
         sift: 0,
     };
-    let mut state = fresh(&rt, alloc, 64, &rules);
-    let gate = single(alloc, Kind::H, 0);
-    assert_eq!(rt; refused_at(alloc, &mut state, &gate), u32::MAX);
-    let (diagrams, _quad) = state.parts();
-    assert_eq!(rt; diagrams.store().held(), 64);
-    assert_eq!(rt; (state.accepted(), state.exponent()), (0, 0));
-    assert_eq!(rt; state.entry(&zeros), ONE);
+    let mut state: SlicedState = begun(alloc, &zeros_of(64), &rules)?;
+    let got = filled(alloc, &mut state);
+    drop(state);
+    got
+}
+
+#[test]
+fn a_full_store_leaves_the_state(rt: HostRuntime) {
+    assert!(rt; filled_once(rt.alloc()) == Some((true, 64, 0, 0, ONE)));
+}
+
+/// Turns all of forty qubits. Whether all gates are accepted.
+fn are_turned<A: Amplitudes>(alloc: Global, state: &mut A) -> bool
+    requires { length (A.standing state.old).input ≡ 40 }
+    ensures { length (A.standing state.new).input ≡ 40 }
+{
+    let mut all = true;
+    for q in 0..40u8 {
+        all = is_applied(alloc, state, (Kind::H, [q, 0, 0]), 40) && all;
+    }
+    all
+}
+
+/// The weight where one qubit is 1 and another one is 0, and the first outcome of the first and the last qubit.
+type Weighed = (Result<Weight, WeighStop>, Placed);
+
+/// What is weighed of forty qubits.
+fn weighed<A: Weigh>(alloc: Global, state: &mut A) -> Option<Weighed>
+    requires { length (A.standing state.old).input ≡ 40 }
+{
+    if !are_turned(alloc, state) {
+        return None;
+    }
+    let mut p = Partial::free(40);
+    p.fix(3, Some(true));
+    p.fix(39, Some(false));
+    let weight = state.weigh(alloc, &p);
+    let measured = Bits::at_place((1 << 39) + 1, 40);
+    let outcome = state.next_outcome(alloc, &measured, None).ok()?;
+    Some((weight, placed(outcome)))
+}
+
+/// The same of a state that begins with zeros.
+fn weighed_once<A: Weigh + Drop>(alloc: Global) -> Option<Weighed>
+    requires { 40 ≤ A.MOST }
+{
+    let mut state: A = begun(alloc, &zeros_of(40), &Rules::usual())?;
+    let got = weighed(alloc, &mut state);
+    drop(state);
+    got
+}
+
+// 2^40 states, of which 2^38 agree. Each entry is 1 over the 40th power of the root of 2.
+#[test]
+fn weight_of_forty_qubits_at_once(rt: HostRuntime) {
+    let want = (Ok(Weight { a: 1 << 38, b: 0 }), Some((0, 2)));
+    assert!(rt; weighed_once::<SlicedState>(rt.alloc()) == Some(want));
+}
+
+/// Gates that make no further parts, in turn.
+fn cheap(i: u32) -> Kind {
+    match i % 6 {
+        0 => Kind::X,
+        1 => Kind::S,
+        2 => Kind::T,
+        3 => Kind::Cx,
+        4 => Kind::Ccx,
+        _ => Kind::Swap,
+    }
+}
+
+/// The gate at a place of a circuit of 64 qubits: two qubits are turned and copied to others, and then each kind that keeps the number of
+/// basis states acts on running qubits.
+fn row_at(i: u32) -> Row {
+    match i {
+        0 => (Kind::H, [5, 40, 0]),
+        1 => (Kind::Cx, [5, 40, 0]),
+        2 => (Kind::H, [30, 63, 0]),
+        3 => (Kind::Cx, [30, 63, 0]),
+        _ => {
+            let q = (i / 6 % 62) as u8;
+            (cheap(i), [q, q + 1, q + 2])
+        }
+    }
+}
+
+/// The gate at a turn of 100,000: forth through the circuit, and then its inverses, the last one first.
+fn gate_at(alloc: Global, turn: u32) -> Option<Gate>
+    ensures { IfSome result (IsOn 64) }
+{
+    if turn < 50_000 {
+        return gate_on(alloc, row_at(turn), 64);
+    }
+    let gate = gate_on(alloc, row_at(99_999u32.saturating_sub(turn)), 64)?;
+    Some(gate.inverse())
+}
+
+/// Applies a gate, if there is one. Whether it is accepted.
+fn is_accepted<A: Amplitudes>(alloc: Global, state: &mut A, gate: Option<Gate>) -> bool
+    requires len { length (A.standing state.old).input ≡ 64 }
+    requires gate { IfSome gate (IsOn 64) }
+    ensures { length (A.standing state.new).input ≡ 64 }
+{
+    match gate {
+        Some(gate) => applied(alloc, state, &gate).is_ok(),
+        None => false,
+    }
+}
+
+/// Applies the gates at some turns. Whether all are accepted.
+fn are_accepted<A: Amplitudes>(alloc: Global, state: &mut A, from: u32, to: u32) -> bool
+    requires { length (A.standing state.old).input ≡ 64 }
+    ensures { length (A.standing state.new).input ≡ 64 }
+{
+    let mut all = true;
+    for turn in from..to {
+        all = is_accepted(alloc, state, gate_at(alloc, turn)) && all;
+    }
+    all
+}
+
+/// How many entries aren't zero in the middle and at the end; and at the end the first of them, its entry, the exponent, and how many gates
+/// are accepted.
+type Returned = (u128, u128, Placed, Quad, u32, u32);
+
+const INPUT: u128 = 0x0123_4567_89ab_cdef;
+
+/// What comes of the way there and back.
+fn returned<A: Amplitudes>(alloc: Global, state: &mut A) -> Option<Returned>
+    requires { length (A.standing state.old).input ≡ 64 }
+{
+    let forth = are_accepted(alloc, state, 0, 50_000);
+    let middle = state.count_nonzero(alloc).ok()?;
+    if !are_accepted(alloc, state, 50_000, 100_000) || !forth {
+        return None;
+    }
+    let end = state.count_nonzero(alloc).ok()?;
+    let first = state.next_nonzero(alloc, None).ok()?;
+    let entry = state.entry(&Bits::at_place(INPUT, 64));
+    Some((
+        middle,
+        end,
+        placed(first),
+        entry,
+        state.exponent(),
+        state.accepted(),
+    ))
+}
+
+/// The same of a state that begins with the input.
+fn returned_once<A: Amplitudes + Drop>(alloc: Global) -> Option<Returned>
+    requires { 64 ≤ A.MOST }
+{
+    let mut state: A = begun(alloc, &Bits::at_place(INPUT, 64), &Rules::usual())?;
+    let got = returned(alloc, &mut state);
+    drop(state);
+    got
+}
+
+#[test]
+fn hundred_thousand_gates_on_sixty_four_qubits(rt: HostRuntime) {
+    let want = (4, 1, Some((INPUT, 64)), ONE, 0, 100_000);
+    assert!(rt; returned_once::<SlicedState>(rt.alloc()) == Some(want));
 }

@@ -1,0 +1,6 @@
+use Rattle.std.proofs.Common.{◌≡◌, length}
+use Rattle.tests_matrices.proofs.products.are_applied.Given as goal
+
+-- the state stays on four qubits
+abbrev pub invariant-loop-row : goal.invariant-loop-row
+invariant-loop-row g l = length (g.A.Amplitudes.standing l.state).input ≡ 4

@@ -1,7 +1,0 @@
-use Rattle.std.proofs.Common.{[], ◌∷◌}
-use Rattle.std.proofs.lemmas.List.Elements.{All-nil, All-cons}
-use Rattle.state_update.specs.Events.{IsWithin}
-use Rattle.tests_states.proofs.event_tests.expect_three.Goals as goal
-
-pub expect_gates_alone-requires-clause-within : goal.expect_gates_alone-requires-clause-within
-expect_gates_alone-requires-clause-within g c = All-cons (IsWithin 2) c.args.a (c.args.b ∷ c.args.c ∷ []) c.requires.a (All-cons (IsWithin 2) c.args.b (c.args.c ∷ []) c.requires.b (All-cons (IsWithin 2) c.args.c [] c.requires.c (All-nil (IsWithin 2))))

@@ -1,0 +1,7 @@
+use Rattle.std.proofs.Common.{[], ◌∷◌}
+use Rattle.std.proofs.lemmas.List.Elements.{All-nil, All-cons}
+use Rattle.state_update.specs.Events.{IsWithin}
+use Rattle.tests_states.proofs.event_tests.is_right_three.Goals as goal
+
+pub are_gates_alone-requires-clause-within : goal.are_gates_alone-requires-clause-within
+are_gates_alone-requires-clause-within c = All-cons (IsWithin 2) c.event.result (c.event-2.result ∷ c.event-3.result ∷ []) c.event.ensures (All-cons (IsWithin 2) c.event-2.result (c.event-3.result ∷ []) c.event-2.ensures (All-cons (IsWithin 2) c.event-3.result [] c.event-3.ensures (All-nil (IsWithin 2))))

@@ -1,6 +1,0 @@
-use Rattle.std.proofs.Common.{◌≡◌, length}
-use Rattle.tests_states.proofs.sift_tests.entries_are_the_same_in_other_orders.Given as goal
-
--- both states stay on six qubits
-abbrev pub invariant-loop-place : goal.invariant-loop-place
-invariant-loop-place g l = record { plain : length l.plain.input ≡ 6; moved : length l.moved.input ≡ 6 }

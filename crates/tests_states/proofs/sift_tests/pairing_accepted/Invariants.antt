@@ -1,6 +1,0 @@
-use Rattle.std.proofs.Common.{◌≡◌, length}
-use Rattle.tests_states.proofs.sift_tests.pairing_accepted.Given as goal
-
--- the state stays on twelve qubits
-abbrev pub invariant-loop-place : goal.invariant-loop-place
-invariant-loop-place g l = length l.state.input ≡ 12

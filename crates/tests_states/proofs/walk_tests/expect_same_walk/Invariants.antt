@@ -1,4 +1,0 @@
-use Rattle.tests_states.proofs.walk_tests.expect_same_walk.Given as goal
-
-abbrev pub invariant-loop : goal.invariant-loop
-invariant-loop g l = record { one : g.A.Amplitudes.walks l.fn.a l.one; other : g.B.Amplitudes.walks l.fn.b l.other }
