@@ -12,8 +12,8 @@ use Rattle.gate_set.specs.Shape.{IsPlaced}
 use Rattle.gate_set.specs.Matrix.{arity_of}
 use Rattle.gate_set.proofs.MatrixLemmas.{arity_of-few}
 use Rattle.qasm_reader.specs.declared.registers.Target.{Target as Place}
-use Rattle.qasm_reader.specs.Acts.{Item, Target, qubit_at, qubits_at, up_to, placed}
-use Rattle.qasm_reader.specs.Calls.{one}
+use Rattle.qasm_gates.specs.Gates.{Item, up_to, one}
+use Rattle.qasm_reader.specs.Acts.{Target, qubit_at, qubits_at, placed}
 use Rattle.qasm_reader.specs.Private.Seen.{seen_target, seen_targets}
 
 -- the gates of the places below a number

@@ -2,7 +2,7 @@
 ghost use Rattle.std.specs.Prelude.{◌≡◌, ◌≤◌, ◌<◌, ◌++◌, ℕ, OnOk, All, length, take, drop, map, replicate};
 ghost use Rattle.gate_set.specs.Shape.{IsPlaced};
 ghost use Rattle.qasm_reader.specs.Acts.{qubits_at, place_count, placed, product};
-ghost use Rattle.qasm_reader.specs.Calls.{one};
+ghost use Rattle.qasm_gates.specs.Gates.{one};
 ghost use Rattle.qasm_reader.specs.Private.Seen.{seen_targets};
 
 use crate::registers::Target;

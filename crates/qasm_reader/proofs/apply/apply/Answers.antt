@@ -1,6 +1,6 @@
 use Rattle.std.proofs.Common.{rules, ◌≡◌, ◌∙◌, ◌<◌, ℕ, ◌+◌, ◌++◌, sym, ap, refl, length, map, replicate, append_assoc}
 use Rattle.qasm_reader.specs.Acts.{place_count, qubits_at, placed}
-use Rattle.qasm_reader.specs.Calls.{one}
+use Rattle.qasm_gates.specs.Gates.{one}
 use Rattle.qasm_reader.specs.Private.Seen.{seen_targets}
 use Rattle.qasm_reader.proofs.Applied.{placed_few, placed_small, product_up_to, product_next}
 use Rattle.qasm_reader.proofs.apply.apply.Goals as goal

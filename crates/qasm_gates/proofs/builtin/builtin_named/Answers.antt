@@ -1,8 +1,8 @@
 use Rattle.std.proofs.Common.{◌∙◌, sym, ap, Some, option_map}
 use Rattle.std.specs.Option.{option_map_or}
-use Rattle.qasm_reader.specs.Calls.{plainly, based, builtin}
-use Rattle.qasm_reader.specs.Private.Seen.{seen_base}
-use Rattle.qasm_reader.proofs.builtin.gate_named.Goals as goal
+use Rattle.qasm_gates.specs.Gates.{plainly, based, builtin}
+use Rattle.qasm_gates.specs.Private.Seen.{seen_base}
+use Rattle.qasm_gates.proofs.builtin.builtin_named.Goals as goal
 
 pub returns-in-Some-clause-named : goal.returns-in-Some-clause-named
 unfolding builtin

@@ -3,9 +3,8 @@ ghost use Rattle.std.specs.Prelude.{◌≡◌, ◌<◌, ◌≤◌, ◌-◌, ◌&
 ghost use Rattle.std.specs.Str.{bytes_eq};
 ghost use Rattle.std.specs.Map.{lookup};
 ghost use Rattle.gate_set.specs.Matrix.{arity_of, IsKind};
-ghost use Rattle.qasm_reader.specs.Calls.{builtin, own, based, bases, plainly, with_control, arity, base_arity, angle_count, base_angles, turns};
-ghost use Rattle.qasm_reader.specs.Private.Seen.{seen_base, seen_named};
-ghost use Rattle.qasm_reader.specs.Private.Scope.{items_of};
+ghost use Rattle.qasm_gates.specs.Gates.{builtin, own, based, bases, plainly, with_control, arity, base_arity, angle_count, base_angles, turns};
+ghost use Rattle.qasm_gates.specs.Private.Seen.{seen_base, seen_builtin, items_of};
 
 use gate_set::Kind;
 
@@ -52,7 +51,7 @@ impl Builtin {
     /// Whether it has so many arguments and angles.
     pub fn has_counts(self, arguments: u8, angles: u8) -> bool
         requires { self.controls ≤ 8 }
-        ensures { result ≡ nat_eq arguments (arity (seen_named self)) && nat_eq angles (angle_count (seen_named self)) }
+        ensures { result ≡ nat_eq arguments (arity (seen_builtin self)) && nat_eq angles (angle_count (seen_builtin self)) }
     {
         arguments == self.controls + self.base.arity() && angles == self.base.angle_count()
     }
@@ -95,7 +94,7 @@ fn own_named(name: &[u8]) -> Option<Base>
 
 // A base alone.
 fn plain(base: Option<Base>) -> Option<Builtin>
-    ensures named { option_map seen_named result ≡ option_map plainly (option_map seen_base base) }
+    ensures named { option_map seen_builtin result ≡ option_map plainly (option_map seen_base base) }
     ensures few { IfSome result (λ b. b.controls ≡ 0) }
 {
     match base {
@@ -107,7 +106,7 @@ fn plain(base: Option<Base>) -> Option<Builtin>
 // A gate with one further control more.
 fn with_control(gate: Option<Builtin>, most: u8) -> Option<Builtin>
     requires few { IfSome gate (λ b. b.controls < most) }
-    ensures named { option_map seen_named result ≡ option_map with_control (option_map seen_named gate) }
+    ensures named { option_map seen_builtin result ≡ option_map with_control (option_map seen_builtin gate) }
     ensures few { IfSome result (λ b. b.controls ≤ most) }
 {
     match gate {
@@ -135,7 +134,7 @@ fn after_letter(name: &[u8], most: u8) -> Option<&[u8]>
 // The gate of a base's name with up to so many letters c before it.
 fn based(name: &[u8], most: u8) -> Option<Builtin>
     requires { most ≤ 8 }
-    ensures named { option_map seen_named result ≡ based most name.now }
+    ensures named { option_map seen_builtin result ≡ based most name.now }
     ensures few { IfSome result (λ b. b.controls ≤ most) }
 {
     match after_letter(name, most) {
@@ -145,8 +144,8 @@ fn based(name: &[u8], most: u8) -> Option<Builtin>
 }
 
 /// The gate of a name.
-pub fn gate_named(name: &[u8]) -> Option<Builtin>
-    ensures named { option_map seen_named result ≡ builtin name.now }
+pub fn builtin_named(name: &[u8]) -> Option<Builtin>
+    ensures named { option_map seen_builtin result ≡ builtin name.now }
     ensures few { IfSome result (λ b. b.controls ≤ 8) }
 {
     match own_named(name) {

@@ -2,10 +2,10 @@ use Rattle.std.proofs.Common.{rules, ◌≡◌, ◌≢◌, ◌∙◌, ◌-◌, �
 use Rattle.std.specs.Str.{bytes_eq}
 use Rattle.std.specs.Map.{lookup}
 use Rattle.std.proofs.lemmas.Bool.{eq-eqb, ne_eqb, cond-true, cond-false}
-use Rattle.qasm_reader.specs.Calls.{Named, based, bases, plainly, with_control}
-use Rattle.qasm_reader.proofs.builtin.after_letter.Goals as goal
+use Rattle.qasm_gates.specs.Gates.{Builtin, based, bases, plainly, with_control}
+use Rattle.qasm_gates.proofs.builtin.after_letter.Goals as goal
 
-abbrev alone : List ℕ → Option Named
+abbrev alone : List ℕ → Option Builtin
 alone name = option_map plainly (lookup (bytes_eq name) bases)
 
 none_left : (most : ℕ) (name : List ℕ) → most ≡ 0 → based most name ≡ alone name
