@@ -17,13 +17,13 @@ use Rattle.qasm_reader.specs.declared.reason.Why.{Why}
 use Rattle.qasm_reader.specs.declared.reason.Why.TheVariants.{BadByte, NoVersion, NotAStatement, OutOfProfile, UnknownName, Redeclared, UnknownRegister, IndexOutOfRange, WrongCount, SizesDiffer, RepeatedQubit, AngleRefused, OffGrid, Measured, TooManyQubits, TooManyGates}
 use Rattle.qasm_reader.specs.Profile.{leaves}
 use Rattle.qasm_reader.specs.Parts.{Has}
-use Rattle.qasm_gates.specs.Gates.{up_to, Builtin, gate, plainly, builtin, one, Gives, plain}
-use Rattle.qasm_reader.specs.Acts.{Act, Register, Target, registers, measured, gates, qubit_count, targets, wholes, qubits_at, placed, product}
+use Rattle.qasm_gates.specs.Gates.{up_to, Builtin, gate, plainly, builtin, one, Gives, plain, placed}
+use Rattle.qasm_reader.specs.Acts.{Act, Register, Target, registers, measured, gates, qubit_count, targets, wholes, qubits_at, product}
 use Rattle.qasm_reader.specs.Calls.{AreValues, Does}
 use Rattle.qasm_reader.specs.Reasons.{out_of_profile, unknown_name, redeclared, unknown_register, out_of_range, wrong_count, AreUnequal, DifferInSize, Repeats, Meets, AtSomePlace, FirstRefused, angles_of, IsOffGrid, called_in, Holds, IsFree, is_beyond, is_unknown, miscounts}
 use Rattle.qasm_reader.specs.Reading.{Accepts, AllAccepted}
 use Rattle.qasm_reader.specs.Private.Scope.{has_twice}
-use Rattle.qasm_reader.proofs.Applied.{placed_all}
+use Rattle.qasm_gates.proofs.Placed.{placed_all}
 use Rattle.qasm_reader.proofs.Deciding.{pairs_none, different}
 use Rattle.qasm_reader.proofs.Good.{has_one}
 use Rattle.qasm_reader.proofs.Growing.{qubit_count_more, registers_more, gates_more, measured_more}

@@ -1,11 +1,12 @@
 -- What names of gates stand for: calls of built-in gates, by the values of their angles.
 use Rattle.std.specs.Prelude.{◌≡◌, ℕ, zero, suc, ◌+◌, ◌-◌, cond, nat_eq, nat_le, List, [], ◌∷◌, ◌++◌, map, get_or, replicate, Option, Some, None, option_map, Result, Ok, Err, codes}
-use Rattle.std.specs.Option.{option_map_or}
+use Rattle.std.specs.Option.{option_map_or, option_or}
 use Rattle.std.specs.Result.{result_map_both}
 use Rattle.std.specs.Str.{bytes_eq}
 use Rattle.std.specs.Map.{lookup}
 use Rattle.gate_set.specs.declared.kind.Kind.{Kind}
 use Rattle.gate_set.specs.declared.kind.Kind.TheVariants.{Id, X, Y, Z, H, S, Sdg, T, Tdg, RxP, RxM, RyP, RyM, Cx, Cz, Swap, Ccx, Cswap, Phase}
+use Rattle.gate_set.specs.declared.gate.Gate.{Gate}
 use Rattle.gate_set.specs.Matrix.{arity_of}
 use Rattle.qasm_lex.specs.declared.refusal.AngleRefusal.{AngleRefusal}
 use Rattle.qasm_lex.specs.declared.value.Value.{Value}
@@ -147,3 +148,11 @@ item_on on i = record { kind = i.kind; extra = map (λ n. get_or on n 0) i.extra
 abbrev pub Do : List Basic → List Item → Type 0
 Do [] items = items ≡ []
 Do (c ∷ calls) items = (first more : List Item) × Gives c.gate c.angles first × Do calls more × (items ≡ map (item_on c.on) first ++ more)
+
+-- a gate on those of the qubits that it names by their numbers
+abbrev pub placed : List ℕ → Item → Gate
+placed qubits i = record { kind = i.kind; on = map (λ n. get_or qubits n 0) i.on; extra = map (λ n. get_or qubits n 0) i.extra }
+
+-- the gate of a name: one that is built in, or one that is defined
+abbrev pub gate_in : List (List ℕ × Named) → List ℕ → Option Named
+gate_in definitions name = option_or (option_map builtin_gate (builtin name)) (lookup (bytes_eq name) definitions)

@@ -5,6 +5,7 @@ ghost use Rattle.std.specs.Map.{lookup};
 ghost use Rattle.gate_set.specs.Matrix.{arity_of, IsKind};
 ghost use Rattle.qasm_gates.specs.Gates.{builtin, own, based, bases, plainly, with_control, arity, base_arity, angle_count, base_angles, turns};
 ghost use Rattle.qasm_gates.specs.Private.Seen.{seen_base, seen_builtin, items_of};
+ghost use Rattle.qasm_gates.specs.Private.Counts.{turn_body};
 
 use gate_set::Kind;
 
@@ -37,7 +38,7 @@ impl Base {
         }
     }
 
-    fn angle_count(self) -> u8
+    pub fn angle_count(self) -> u8
         ensures { result ≡ base_angles (seen_base self) }
     {
         match self {
@@ -48,12 +49,25 @@ impl Base {
 }
 
 impl Builtin {
+    pub fn arity(self) -> u8
+        requires { self.controls ≤ 8 }
+        ensures { result ≡ arity (seen_builtin self) }
+    {
+        self.controls + self.base.arity()
+    }
+
+    pub fn angle_count(self) -> u8
+        ensures { result ≡ angle_count (seen_builtin self) }
+    {
+        self.base.angle_count()
+    }
+
     /// Whether it has so many arguments and angles.
     pub fn has_counts(self, arguments: u8, angles: u8) -> bool
         requires { self.controls ≤ 8 }
         ensures { result ≡ nat_eq arguments (arity (seen_builtin self)) && nat_eq angles (angle_count (seen_builtin self)) }
     {
-        arguments == self.controls + self.base.arity() && angles == self.base.angle_count()
+        arguments == self.arity() && angles == self.angle_count()
     }
 }
 
@@ -157,6 +171,7 @@ pub fn builtin_named(name: &[u8]) -> Option<Builtin>
 /// How a number of quarter turns is done: by how many of which kind.
 pub fn turns(forth: Kind, back: Kind, quarters: u8) -> (Kind, u8)
     requires { quarters < 8 }
+    ensures value { result ≡ turn_body forth back quarters }
     ensures items { (n : ℕ) → items_of n result ≡ turns n forth back quarters }
     ensures arity { arity_of forth ≡ 1 → arity_of back ≡ 1 → arity_of result.0 ≡ 1 }
     ensures power { IsKind forth → IsKind back → IsKind result.0 }

@@ -14,14 +14,14 @@ use Rattle.gate_set.specs.Matrix.{arity_of, IsKind}
 use Rattle.gate_set.specs.Shape.{IsOn}
 use Rattle.qasm_lex.specs.Fractions.{Ratio}
 use Rattle.qasm_forms.specs.Statements.{Argument}
-use Rattle.qasm_gates.specs.Gates.{Item, up_to, Builtin, builtin, arity, Gives}
+use Rattle.qasm_gates.specs.Gates.{Item, up_to, Builtin, builtin, arity, Gives, placed}
 use Rattle.qasm_gates.proofs.Builtins.{found_holds, named_fit, gives_body}
-use Rattle.qasm_reader.specs.Acts.{Register, Target, register, index_of, place_in, target, targets, wholes, place_count, qubit_at, qubits_at, placed}
+use Rattle.qasm_reader.specs.Acts.{Register, Target, register, index_of, place_in, target, targets, wholes, place_count, qubit_at, qubits_at}
 use Rattle.qasm_reader.specs.Reasons.{same_sort, is_unknown, reaches, is_beyond}
 use Rattle.qasm_reader.specs.Private.Scope.{differ, has_twice, repeats}
 use Rattle.qasm_reader.specs.Private.Drafts.{Draft, IsDraft, EndsWithin}
 use Rattle.qasm_reader.proofs.Places.{any_there}
-use Rattle.qasm_reader.proofs.Applied.{gate_on, placed_all}
+use Rattle.qasm_gates.proofs.Placed.{gate_on, placed_all}
 use Rattle.qasm_reader.proofs.Deciding.{different, same_places}
 use Rattle.qasm_reader.proofs.Looking.{with_first, length_targets}
 

@@ -7,7 +7,7 @@ use Rattle.gate_set.specs.declared.gate.Gate.{Gate}
 use Rattle.gate_set.specs.Circuits.{Circuit}
 use Rattle.qasm_lex.specs.Symbols.{decimal}
 use Rattle.qasm_forms.specs.Statements.{Argument}
-use Rattle.qasm_gates.specs.Gates.{Item, up_to}
+use Rattle.qasm_gates.specs.Gates.{Item, up_to, placed}
 
 -- a declared register: whether it holds qubits, the number of its first qubit, and how many places it has
 pub record Register : Type 0 where
@@ -89,10 +89,6 @@ qubit_at place t = qubit_from t.first t.size place
 
 abbrev pub qubits_at : List Target → ℕ → List ℕ
 qubits_at ts place = map (qubit_at place) ts
-
--- a gate on those of the qubits that it names by their numbers
-abbrev pub placed : List ℕ → Item → Gate
-placed qubits i = record { kind = i.kind; on = map (λ n. get_or qubits n 0) i.on; extra = map (λ n. get_or qubits n 0) i.extra }
 
 -- all of them at each place in turn
 abbrev pub product : List Item → List Target → List Gate

@@ -1,6 +1,6 @@
 use Rattle.std.proofs.Common.{◌≡◌, ◌∙◌, ◌++◌, ap, arith, replicate}
-use Rattle.qasm_reader.proofs.Applied.{placed_same}
-use Rattle.qasm_reader.proofs.apply.apply_at.Goals as goal
+use Rattle.qasm_gates.proofs.Placed.{placed_same}
+use Rattle.qasm_gates.proofs.expanding.add_gates.Goals as goal
 
 pub returns : goal.returns
 returns c =
