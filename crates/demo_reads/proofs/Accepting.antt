@@ -17,12 +17,13 @@ use Rattle.qasm_reader.specs.declared.reason.Why.{Why}
 use Rattle.qasm_reader.specs.declared.reason.Why.TheVariants.{BadByte, NoVersion, NotAStatement, OutOfProfile, UnknownName, Redeclared, UnknownRegister, IndexOutOfRange, WrongCount, SizesDiffer, RepeatedQubit, AngleRefused, OffGrid, Measured, TooManyQubits, TooManyGates}
 use Rattle.qasm_reader.specs.Profile.{leaves}
 use Rattle.qasm_reader.specs.Parts.{Has}
-use Rattle.qasm_reader.specs.Acts.{Act, Register, Target, registers, measured, gates, qubit_count, targets, wholes, qubits_at, up_to, placed, product}
-use Rattle.qasm_reader.specs.Calls.{Named, gate, plainly, builtin, one, Gives, plain, AreValues, Does}
+use Rattle.qasm_gates.specs.Gates.{up_to, Builtin, gate, plainly, builtin, one, Gives, plain, placed}
+use Rattle.qasm_reader.specs.Acts.{Act, Register, Target, registers, measured, gates, qubit_count, targets, wholes, qubits_at, product}
+use Rattle.qasm_reader.specs.Calls.{AreValues, Does}
 use Rattle.qasm_reader.specs.Reasons.{out_of_profile, unknown_name, redeclared, unknown_register, out_of_range, wrong_count, AreUnequal, DifferInSize, Repeats, Meets, AtSomePlace, FirstRefused, angles_of, IsOffGrid, called_in, Holds, IsFree, is_beyond, is_unknown, miscounts}
 use Rattle.qasm_reader.specs.Reading.{Accepts, AllAccepted}
 use Rattle.qasm_reader.specs.Private.Scope.{has_twice}
-use Rattle.qasm_reader.proofs.Applied.{placed_all}
+use Rattle.qasm_gates.proofs.Placed.{placed_all}
 use Rattle.qasm_reader.proofs.Deciding.{pairs_none, different}
 use Rattle.qasm_reader.proofs.Good.{has_one}
 use Rattle.qasm_reader.proofs.Growing.{qubit_count_more, registers_more, gates_more, measured_more}
@@ -156,14 +157,14 @@ pub no_call : IsOffGrid None [] → ⊥
 no_call g = let e = g.is in absurd (cc)
 
 -- a gate without angles does something
-plain_gives : (called : Named) (kind : Kind) (values : List Ratio) → called ≡ plainly (gate kind) → AreValues [] values → Gives called values (one 0 kind ∷ [])
-plain_gives called kind [] e v = plain kind (ap (λ (n : Named). n.base) e) refl (ap (λ (n : Named). one n.controls kind ∷ []) (sym e))
+plain_gives : (called : Builtin) (kind : Kind) (values : List Ratio) → called ≡ plainly (gate kind) → AreValues [] values → Gives called values (one 0 kind ∷ [])
+plain_gives called kind [] e v = plain kind (ap (λ (n : Builtin). n.base) e) refl (ap (λ (n : Builtin). one n.controls kind ∷ []) (sym e))
 plain_gives called kind (f ∷ values) e v = absurd v
 
-same_named : (a b : Named) → Some a ≡ Some b → a ≡ b
+same_named : (a b : Builtin) → Some a ≡ Some b → a ≡ b
 same_named a b e = cc
 
-on_grid : (named : Option Named) (kind : Kind) → named ≡ Some (plainly (gate kind)) → IsOffGrid named [] → ⊥
+on_grid : (named : Option Builtin) (kind : Kind) → named ≡ Some (plainly (gate kind)) → IsOffGrid named [] → ⊥
 on_grid named kind e g = g.none (one 0 kind ∷ []) (plain_gives g.called kind g.values (same_named g.called (plainly (gate kind)) (sym g.is ∙ e)) g.valued)
 
 -- the gate of a kind

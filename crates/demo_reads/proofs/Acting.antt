@@ -4,7 +4,7 @@ use Rattle.qasm_lex.specs.Lexemes.{Lexeme, AreLexemes}
 use Rattle.qasm_forms.specs.Statements.{Statement, version, include, qubits, call as calling, Argument, written}
 use Rattle.qasm_reader.specs.Parts.{Part, parts_of}
 use Rattle.qasm_reader.specs.Acts.{Act, Target, nothing, declares, applies}
-use Rattle.qasm_reader.specs.Calls.{builtin, one}
+use Rattle.qasm_gates.specs.Gates.{builtin, one}
 use Rattle.demo_text.specs.Generator.{Call, demo_calls}
 use Rattle.demo_reads.specs.Drawn.{kind_in}
 

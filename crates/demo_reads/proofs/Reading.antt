@@ -17,8 +17,9 @@ use Rattle.qasm_lex.specs.Symbols.{decimal as read_decimal}
 use Rattle.qasm_forms.specs.Statements.{Statement, version, include, qubits, is_name}
 use Rattle.qasm_reader.specs.Profile.{leaves}
 use Rattle.qasm_reader.specs.Parts.{Has}
-use Rattle.qasm_reader.specs.Acts.{Act, nothing, declares, qubit_count, gates, measured, up_to, is_among, circuit_of}
-use Rattle.qasm_reader.specs.Calls.{gate, plainly, based, builtin, Does}
+use Rattle.qasm_gates.specs.Gates.{up_to, gate, plainly, based, builtin}
+use Rattle.qasm_reader.specs.Acts.{Act, nothing, declares, qubit_count, gates, measured, is_among, circuit_of}
+use Rattle.qasm_reader.specs.Calls.{Does}
 use Rattle.qasm_reader.specs.Reasons.{no_size}
 use Rattle.qasm_reader.specs.Private.Scope.{has_twice}
 use Rattle.qasm_reader.specs.Reading.{Accepts, AllAccepted, Reads, ReadsAs, circuit}

@@ -7,7 +7,7 @@ use Rattle.std.proofs.lemmas.List.FromFn.{length-range_with_len}
 use Rattle.gate_set.specs.declared.kind.Kind.{Kind}
 use Rattle.gate_set.specs.declared.kind.Kind.TheVariants.{Cx, Cz, Swap, Ccx, Cswap}
 use Rattle.gate_set.specs.Matrix.{arity_of}
-use Rattle.qasm_reader.specs.Calls.{builtin}
+use Rattle.qasm_gates.specs.Gates.{builtin}
 use Rattle.demo_text.specs.Generator.{Call, call, name_at, kinds, drawn, place_text, more_places, places_text, line, lines, first_calls, call_drawn, after_call, calls_drawn, head_text, demo_text}
 use Rattle.demo_text.proofs.Writing.{demo_parted}
 use Rattle.demo_reads.specs.Drawn.{kind_in}

@@ -4,7 +4,7 @@ use Rattle.gate_set.specs.declared.kind.Kind.{Kind}
 use Rattle.gate_set.specs.declared.kind.Kind.TheVariants.{Id}
 use Rattle.gate_set.specs.declared.gate.Gate.{Gate}
 use Rattle.gate_set.specs.Circuits.{Circuit}
-use Rattle.qasm_reader.specs.Calls.{Base, Named, gate, builtin}
+use Rattle.qasm_gates.specs.Gates.{Base, Builtin, gate, builtin}
 use Rattle.demo_text.specs.Generator.{Call, demo_calls}
 
 -- the kind of a name's gate; each name that is drawn has one
@@ -12,7 +12,7 @@ abbrev pub kind_of : Base → Kind
 kind_of (gate kind) = kind
 kind_of _ = Id
 
-abbrev pub kind_in : Option Named → Kind
+abbrev pub kind_in : Option Builtin → Kind
 kind_in (Some n) = kind_of n.base
 kind_in None = Id
 

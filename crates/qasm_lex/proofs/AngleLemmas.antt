@@ -1,5 +1,5 @@
 -- The answer to symbols, and the tokens of a text as places of it.
-use Rattle.std.proofs.Common.{◌≡◌, sym, refl, ◌≤◌, ◌<◌, ℕ, ◌-◌, List, [], ◌∷◌, length, drop, Option, Some, None, Result, Ok, Err, IfSome, All, arith, subst, length-drop}
+use Rattle.std.proofs.Common.{◌≡◌, ◌∙◌, sym, ap, refl, ◌≤◌, ◌<◌, ℕ, ◌-◌, List, [], ◌∷◌, length, drop, Option, Some, None, Result, Ok, Err, IfSome, All, arith, subst, length-drop}
 use Rattle.std.specs.List.{filter_map}
 use Rattle.std.proofs.lemmas.List.{length-take-le}
 use Rattle.std.proofs.lemmas.List.Elements.{All-nil, All-cons}
@@ -9,11 +9,13 @@ use Rattle.qasm_lex.specs.declared.pieces.Form.TheVariants.{Blank, Comment, Toke
 use Rattle.qasm_lex.specs.declared.symbol.Symbol.{Symbol}
 use Rattle.qasm_lex.specs.declared.refusal.AngleRefusal.{AngleRefusal}
 use Rattle.qasm_lex.specs.declared.refusal.AngleRefusal.TheVariants.{TooLong, Malformed}
-use Rattle.qasm_lex.specs.Lexemes.{Piece, IsPiece, Cut, token_of, AreTokens, IsWithin}
+use Rattle.qasm_lex.specs.Lexemes.{Piece, IsPiece, Cut, token_of, AreTokens, IsWithin, Lexeme, word, whole, real, quoted, arrow, equal, mark}
+use Rattle.qasm_lex.specs.Symbols.{symbol_of, symbols, symbol_in, symbols_in}
 use Rattle.qasm_lex.specs.Expressions.{Tree, Formed, spelling, eval}
-use Rattle.qasm_lex.specs.Values.{Outcome, values}
-use Rattle.qasm_lex.specs.Angles.{IsExpression, IsShape, too_long, malformed, expression, value_in, IsAnswer}
-use Rattle.qasm_lex.specs.Private.Descent.{parsed, expr, whole_of, answer_from}
+use Rattle.qasm_lex.specs.declared.value.Value.{Value}
+use Rattle.qasm_lex.specs.Values.{Outcome, values, multiple_of}
+use Rattle.qasm_lex.specs.Angles.{IsExpression, IsShape, too_long, malformed, expression, told, IsOutcome, IsAnswer}
+use Rattle.qasm_lex.specs.Private.Descent.{parsed, expr, whole_of, outcome_from, shape_from, answer_from}
 use Rattle.qasm_lex.proofs.Cuts.{spelling_some}
 use Rattle.qasm_lex.proofs.Whole.{found, only}
 
@@ -39,21 +41,51 @@ each_token text place stop (p ∷ pieces) c = each_step text p.form p.from p.to 
 pub tokens_within : (text : List ℕ) (tokens : List Token) (bad : Option ℕ) → AreTokens text tokens bad → All (IsWithin text) tokens
 tokens_within text tokens bad a = subst (All (IsWithin text)) (sym a.tokens_are) (each_token text 0 a.stop a.pieces a.cut)
 
-no_tree : (s : List Symbol) → whole_of (parsed expr s) ≡ None → (t : Tree) → IsExpression s t → ⊥
-no_tree s e t r = let f = only s t r.formed r.spelled in absurd cc
+no_tree : (given : List Value) (s : List Symbol) → whole_of (parsed given expr s) ≡ None → (t : Tree) → IsExpression s t → ⊥
+no_tree given s e t r = let f = only given s t r.formed r.spelled in absurd cc
 
--- the answer that a shape gives
-shaped : (s : List Symbol) (shape : Result Tree AngleRefusal) (outcome : Outcome) → IsShape s shape → outcome ≡ value_in shape → IsAnswer s (answer_from (Some outcome))
-shaped s shape outcome i e = record { outcome = outcome; is_outcome = record { shape = shape; is_shape = i; value = e }; multiple = refl }
+outcome_step : (given : List Value) (s : List Symbol) → length s ≤ 64 → (x : Option Outcome) → whole_of (parsed given expr s) ≡ x → IfSome x (λ w. (t : Tree) × Formed t × (s ≡ spelling t) × (eval (values given) t ≡ w)) → IsOutcome given s (outcome_from x)
+outcome_step given s h None e f = record { shape = Err Malformed; is_shape = malformed h (no_tree given s e) refl; value = refl }
+outcome_step given s h (Some v) e f = record { shape = Ok f.0; is_shape = expression h f.0 (record { formed = f.1; spelled = f.2 }) refl; value = sym f.3 }
 
-answer_step : (s : List Symbol) → length s ≤ 64 → (x : Option Outcome) → whole_of (parsed expr s) ≡ x → IfSome x (λ w. (t : Tree) × Formed t × (s ≡ spelling t) × (eval values t ≡ w)) → IsAnswer s (answer_from x)
-answer_step s h None e f = shaped s (Err Malformed) (Err Malformed) (malformed h (no_tree s e) refl) refl
-answer_step s h (Some v) e f = shaped s (Ok f.0) v (expression h f.0 (record { formed = f.1; spelled = f.2 }) refl) (sym f.3)
-
--- the answer that is read
-pub answer_is : (s : List Symbol) → length s ≤ 64 → IsAnswer s (answer_from (whole_of (parsed expr s)))
-answer_is s h = answer_step s h (whole_of (parsed expr s)) refl (found s)
+-- the value that is read, or the refusal
+pub outcome_is : (given : List Value) (s : List Symbol) → length s ≤ 64 → IsOutcome given s (outcome_from (whole_of (parsed given expr s)))
+outcome_is given s h = outcome_step given s h (whole_of (parsed given expr s)) refl (found given s)
 
 -- or that there are too many symbols
+pub long_outcome : (given : List Value) (s : List Symbol) → 64 < length s → IsOutcome given s (Err TooLong)
+long_outcome given s h = record { shape = Err TooLong; is_shape = too_long h refl; value = refl }
+
+answer_same : (x : Option Outcome) → answer_from x ≡ multiple_of (outcome_from x)
+answer_same None = refl
+answer_same (Some x) = refl
+
+-- the answer that is read
+pub answer_is : (s : List Symbol) → length s ≤ 64 → IsAnswer s (answer_from (whole_of (parsed [] expr s)))
+answer_is s h = record { outcome = outcome_from (whole_of (parsed [] expr s)); is_outcome = outcome_is [] s h; multiple = answer_same (whole_of (parsed [] expr s)) }
+
 pub long_is : (s : List Symbol) → 64 < length s → IsAnswer s (Err TooLong)
-long_is s h = shaped s (Err TooLong) (Err TooLong) (too_long h refl) refl
+long_is s h = record { outcome = Err TooLong; is_outcome = long_outcome [] s h; multiple = refl }
+
+shape_step : (given : List Value) (s : List Symbol) → length s ≤ 64 → (x : Option Outcome) → whole_of (parsed given expr s) ≡ x → IfSome x (λ w. (t : Tree) × Formed t × (s ≡ spelling t) × (eval (values given) t ≡ w))
+    → (shape : Result Tree AngleRefusal) × IsShape s shape × (shape_from x ≡ told shape)
+shape_step given s h None e f = (Err Malformed, malformed h (no_tree given s e) refl, refl)
+shape_step given s h (Some v) e f = (Ok f.0, expression h f.0 (record { formed = f.1; spelled = f.2 }) refl, refl)
+
+-- what is read has the shape of an expression, whatever the values
+pub shape_is : (given : List Value) (s : List Symbol) → length s ≤ 64 → (shape : Result Tree AngleRefusal) × IsShape s shape × (shape_from (whole_of (parsed given expr s)) ≡ told shape)
+shape_is given s h = shape_step given s h (whole_of (parsed given expr s)) refl (found given s)
+
+symbol_bare : (l : Lexeme) → symbol_in [] l ≡ symbol_of l
+symbol_bare (word bytes) = refl
+symbol_bare (whole digits) = refl
+symbol_bare (real bytes) = refl
+symbol_bare (quoted bytes) = refl
+symbol_bare arrow = refl
+symbol_bare equal = refl
+symbol_bare (mark b) = refl
+
+-- where there are no parameters, lexemes stand for what they stand for
+pub symbols_bare : (ls : List Lexeme) → symbols_in [] ls ≡ symbols ls
+symbols_bare [] = refl
+symbols_bare (l ∷ ls) = ap (λ x. x ∷ symbols_in [] ls) (symbol_bare l) ∙ ap (λ xs. symbol_of l ∷ xs) (symbols_bare ls)

@@ -1,8 +1,8 @@
 -- What a tree spells is read as its value, whatever may follow.
 use Rattle.std.proofs.Common.{◌≡◌, ◌∙◌, sym, ap, refl, ◌≤◌, ◌<◌, ℕ, zero, suc, ◌+◌, ◌*◌, List, [], ◌∷◌, ◌++◌, length, Some, arith, append_assoc, length-append}
 use Rattle.qasm_lex.specs.declared.symbol.Symbol.{Symbol}
-use Rattle.qasm_lex.specs.declared.symbol.Symbol.TheVariants.{Whole, Real, Pi, Function, Plus, Minus, Times, Over, Caret, Open, Close}
-use Rattle.qasm_lex.specs.Expressions.{Tree, whole, real, pi, plus, minus, times, over, opposite, raised, called, group, spelling, rank, Formed, Algebra, eval}
+use Rattle.qasm_lex.specs.declared.symbol.Symbol.TheVariants.{Whole, Real, Pi, Param, Function, Plus, Minus, Times, Over, Caret, Open, Close}
+use Rattle.qasm_lex.specs.Expressions.{Tree, whole, real, pi, param, plus, minus, times, over, opposite, raised, called, group, spelling, rank, Formed, Algebra, eval}
 use Rattle.qasm_lex.specs.Private.Descent.{Goal, expr, terms, term, factors, factor, power, raise, atom, next, close, parse}
 
 -- what may follow: nothing that would go on
@@ -215,6 +215,7 @@ unfolding parse
 ladder o (whole n) f = atom_ladder o _ _ (λ r. tt) (leaf_atom o (Whole n) (o.of_whole n) (λ n u. refl))
 ladder o real f = atom_ladder o _ _ (λ r. tt) (leaf_atom o Real (o.of_real) (λ n u. refl))
 ladder o pi f = atom_ladder o _ _ (λ r. tt) (leaf_atom o Pi (o.of_pi) (λ n u. refl))
+ladder o (param k) f = atom_ladder o _ _ (λ r. tt) (leaf_atom o (Param k) (o.of_param k) (λ n u. refl))
 ladder o (plus l r) f = expr_ladder o _ _ (sum_expr o Plus o.sum (λ n v t. refl) (λ t. (tt, tt)) (spelling l) (spelling r) (eval o l) (eval o r) ((ladder o l f.0).as_expr) ((ladder o r f.1).as_term f.2))
 ladder o (minus l r) f = expr_ladder o _ _ (sum_expr o Minus o.difference (λ n v t. refl) (λ t. (tt, tt)) (spelling l) (spelling r) (eval o l) (eval o r) ((ladder o l f.0).as_expr) ((ladder o r f.1).as_term f.2))
 ladder o (times l r) f = term_ladder o _ _ (product_term o Times o.product (λ n v t. refl) (λ t. tt) (spelling l) (spelling r) (eval o l) (eval o r) ((ladder o l f.0).as_term f.1) ((ladder o r f.2).as_factor f.3))

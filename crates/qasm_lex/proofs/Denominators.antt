@@ -1,12 +1,12 @@
 -- The denominators of values are positive.
-use Rattle.std.proofs.Common.{◌≡◌, ◌∙◌, sym, ap, refl, subst, ℕ, Bool, true, false, cond, nat_eq, nat_le, List, Option, Some, None, Result, Ok, Err, arith, ℤ, pos, ◌≤ℤ◌, ◌*ℤ◌, unsigned_abs}
+use Rattle.std.proofs.Common.{◌≡◌, ◌∙◌, sym, ap, refl, subst, ℕ, Bool, true, false, cond, nat_eq, nat_le, List, [], Option, Some, None, Result, Ok, Err, arith, ℤ, pos, ◌≤ℤ◌, ◌*ℤ◌, unsigned_abs}
 use Rattle.std.proofs.lemmas.Int.{ints}
 use Rattle.qasm_lex.specs.declared.symbol.Symbol.{Symbol}
 use Rattle.qasm_lex.specs.declared.value.Value.{Value}
 use Rattle.qasm_lex.specs.declared.refusal.AngleRefusal.{AngleRefusal}
 use Rattle.qasm_lex.specs.declared.refusal.AngleRefusal.TheVariants.{NotExact, ZeroDivisor, TooWide}
 use Rattle.qasm_lex.specs.Fractions.{Ratio, most, lowest, fraction, is_zero, is_narrow, reciprocal, ratio_sum, ratio_product}
-use Rattle.qasm_lex.specs.Expressions.{Tree, whole, real, pi, plus, minus, times, over, opposite, raised, called, group, eval}
+use Rattle.qasm_lex.specs.Expressions.{Tree, whole, real, pi, param, plus, minus, times, over, opposite, raised, called, group, eval}
 use Rattle.qasm_lex.specs.Values.{Outcome, values, both, then, value_of, value_sum, value_difference, value_product, value_quotient, scaled, negative_value, whole_value, number_of, multiple_of}
 use Rattle.qasm_lex.specs.Angles.{value_in, IsAnswer}
 use Rattle.qasm_lex.proofs.FractionLemmas.{lowest_den, product_positive}
@@ -103,17 +103,18 @@ called_positive : (x : Outcome) → MayBePositive (then x (λ _. Err NotExact))
 called_positive (Ok x) = tt
 called_positive (Err e) = tt
 
-eval_positive : (t : Tree) → MayBePositive (eval values t)
+eval_positive : (t : Tree) → MayBePositive (eval (values []) t)
 eval_positive (whole n) = number_positive n
 eval_positive real = tt
 eval_positive pi = (omega (arith, ints), omega (arith, ints))
-eval_positive (plus l r) = both_positive value_sum (eval values l) (eval values r) value_sum_positive (eval_positive l) (eval_positive r)
-eval_positive (minus l r) = both_positive value_difference (eval values l) (eval values r) value_difference_positive (eval_positive l) (eval_positive r)
-eval_positive (times l r) = both_positive value_product (eval values l) (eval values r) value_product_positive (eval_positive l) (eval_positive r)
-eval_positive (over l r) = both_positive value_quotient (eval values l) (eval values r) value_quotient_positive (eval_positive l) (eval_positive r)
-eval_positive (opposite t) = negative_positive (eval values t) (eval_positive t)
-eval_positive (raised l r) = both_positive (λ _ _. Err NotExact) (eval values l) (eval values r) (λ a b p q. tt) (eval_positive l) (eval_positive r)
-eval_positive (called t) = called_positive (eval values t)
+eval_positive (param n) = whole_positive (pos 0)
+eval_positive (plus l r) = both_positive value_sum (eval (values []) l) (eval (values []) r) value_sum_positive (eval_positive l) (eval_positive r)
+eval_positive (minus l r) = both_positive value_difference (eval (values []) l) (eval (values []) r) value_difference_positive (eval_positive l) (eval_positive r)
+eval_positive (times l r) = both_positive value_product (eval (values []) l) (eval (values []) r) value_product_positive (eval_positive l) (eval_positive r)
+eval_positive (over l r) = both_positive value_quotient (eval (values []) l) (eval (values []) r) value_quotient_positive (eval_positive l) (eval_positive r)
+eval_positive (opposite t) = negative_positive (eval (values []) t) (eval_positive t)
+eval_positive (raised l r) = both_positive (λ _ _. Err NotExact) (eval (values []) l) (eval (values []) r) (λ a b p q. tt) (eval_positive l) (eval_positive r)
+eval_positive (called t) = called_positive (eval (values []) t)
 eval_positive (group t) = eval_positive t
 
 multiple_positive : (x : Outcome) → MayBePositive x → Positive (multiple_of x)
@@ -125,11 +126,11 @@ multiple_positive (Ok x) p = by (is_zero x.u)
 multiple_positive (Err e) p = tt
 
 -- the value of any shape
-shape_positive : (shape : Result Tree AngleRefusal) → MayBePositive (value_in shape)
+shape_positive : (shape : Result Tree AngleRefusal) → MayBePositive (value_in [] shape)
 shape_positive (Ok t) = eval_positive t
 shape_positive (Err e) = tt
 
 -- so the fraction that is answered has a positive denominator
 pub answer_positive : (symbols : List Symbol) (f : Ratio) → IsAnswer symbols (Ok f) → pos 1 ≤ℤ f.den
 answer_positive symbols f a =
-    subst Positive (sym (a.multiple ∙ ap multiple_of a.is_outcome.value)) (multiple_positive (value_in a.is_outcome.shape) (shape_positive a.is_outcome.shape))
+    subst Positive (sym (a.multiple ∙ ap multiple_of a.is_outcome.value)) (multiple_positive (value_in [] a.is_outcome.shape) (shape_positive a.is_outcome.shape))

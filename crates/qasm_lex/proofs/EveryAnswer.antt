@@ -1,5 +1,5 @@
 -- Each angle has an answer, and each fraction is a number of quarter turns or isn't.
-use Rattle.std.proofs.Common.{◌≡◌, ◌∙◌, sym, ap, refl, ◌<◌, ◌⊎◌, inl, inr, ℕ, zero, suc, List, length, Result, Err, arith, ℤ, pos, negsuc, ◌≤ℤ◌, ◌+ℤ◌, ◌*ℤ◌, int_div, unsigned_abs}
+use Rattle.std.proofs.Common.{◌≡◌, ◌∙◌, sym, ap, refl, ◌<◌, ◌⊎◌, inl, inr, ℕ, zero, suc, List, [], length, Result, Err, arith, ℤ, pos, negsuc, ◌≤ℤ◌, ◌+ℤ◌, ◌*ℤ◌, int_div, unsigned_abs}
 use Rattle.std.specs.Prelude.{int_rem}
 use Rattle.std.specs.Int.{int_rem_euclid}
 use Rattle.std.proofs.lemmas.Bool.{cases_lt}
@@ -18,7 +18,7 @@ use Rattle.qasm_lex.proofs.QuarterLemmas.{quotient_of, modulo_eight, modulo_eigh
 pub every_answer : (symbols : List Symbol) → (answer : Result Ratio AngleRefusal) × IsAnswer symbols answer
 every_answer symbols = elim (cases_lt 64 (length symbols)) [
   | inl h ↦ (Err TooLong, long_is symbols h)
-  | inr h ↦ (answer_from (whole_of (parsed expr symbols)), answer_is symbols (omega arith))
+  | inr h ↦ (answer_from (whole_of (parsed [] expr symbols)), answer_is symbols (omega arith))
 ]
 
 -- what is left of a number modulo eight is below eight
@@ -27,7 +27,7 @@ below_eight (pos a) = omega arith
 below_eight (negsuc a) = omega arith
 
 -- a multiple of the denominator, and a number of quarter turns
-quarters_found : (f : Ratio) (q : ℤ) → f.num *ℤ pos 2 ≡ q *ℤ f.den → (m : ℕ) × IsQuarters f m
+pub quarters_found : (f : Ratio) (q : ℤ) → f.num *ℤ pos 2 ≡ q *ℤ f.den → (m : ℕ) × IsQuarters f m
 quarters_found f q e =
     let m = modulo_eight q in (
       unsigned_abs (int_rem_euclid q (pos 8)),

@@ -1,8 +1,8 @@
 -- What is read is spelled by a tree, of that value.
 use Rattle.std.proofs.Common.{◌≡◌, ◌∙◌, sym, ap, refl, ◌≤◌, ℕ, zero, suc, List, [], ◌∷◌, ◌++◌, Some, None, arith, append_assoc}
 use Rattle.qasm_lex.specs.declared.symbol.Symbol.{Symbol}
-use Rattle.qasm_lex.specs.declared.symbol.Symbol.TheVariants.{Whole, Real, Pi, Function, Plus, Minus, Times, Over, Caret, Open, Close}
-use Rattle.qasm_lex.specs.Expressions.{Tree, whole, real, pi, plus, minus, times, over, opposite, raised, called, group, spelling, rank, Formed, Algebra, eval}
+use Rattle.qasm_lex.specs.declared.symbol.Symbol.TheVariants.{Whole, Real, Pi, Param, Function, Plus, Minus, Times, Over, Caret, Open, Close}
+use Rattle.qasm_lex.specs.Expressions.{Tree, whole, real, pi, param, plus, minus, times, over, opposite, raised, called, group, spelling, rank, Formed, Algebra, eval}
 use Rattle.qasm_lex.specs.Private.Descent.{Goal, expr, terms, term, factors, factor, power, raise, atom, Found, next, close, parse}
 
 -- a tree of this rank or a higher one spells the front, and has this value
@@ -133,6 +133,7 @@ sound o (suc n) (raise v) (c ∷ s) = itself o 4 3 (omega arith) v (c ∷ s)
 sound o (suc n) atom (Whole k ∷ s) = leaf o (whole k) (Whole k) s tt (omega arith) refl
 sound o (suc n) atom (Real ∷ s) = leaf o real Real s tt (omega arith) refl
 sound o (suc n) atom (Pi ∷ s) = leaf o pi Pi s tt (omega arith) refl
+sound o (suc n) atom (Param k ∷ s) = leaf o (param k) (Param k) s tt (omega arith) refl
 sound o (suc n) atom (Open ∷ s) =
     bind_good o expr s (parse o n expr s) (sound o n expr s) (λ x. GoodFound o atom (Open ∷ s) x) tt (λ v r. close (o.grouped v) r)
     (λ v r p. close_good o v s group (Open ∷ []) (o.grouped) (λ t. refl) (λ t. refl) (λ t f. f) (λ t. omega arith) r p)

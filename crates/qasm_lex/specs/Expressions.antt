@@ -1,13 +1,15 @@
 -- Expressions of angles as trees, how a tree is spelled, and what it stands for. (OpenQASM 2.0's expressions)
 use Rattle.std.specs.Prelude.{ℕ, ◌≤◌, List, [], ◌∷◌, ◌++◌, Option, ℤ}
 use Rattle.qasm_lex.specs.declared.symbol.Symbol.{Symbol}
-use Rattle.qasm_lex.specs.declared.symbol.Symbol.TheVariants.{Whole, Real, Pi, Function, Plus, Minus, Times, Over, Caret, Open, Close}
+use Rattle.qasm_lex.specs.declared.symbol.Symbol.TheVariants.{Whole, Real, Pi, Param, Function, Plus, Minus, Times, Over, Caret, Open, Close}
 
--- sums, products, quotients, signs, powers, calls of a function, parentheses, and what these are made of
+-- sums, products, quotients, signs, powers, calls of a function, parentheses, and what these are made of: numbers, π and parameters, by their
+-- numbers from 0
 pub data Tree : Type 0 where
   whole : Option ℤ → Tree
   real : Tree
   pi : Tree
+  param : ℕ → Tree
   plus : Tree → Tree → Tree
   minus : Tree → Tree → Tree
   times : Tree → Tree → Tree
@@ -22,6 +24,7 @@ abbrev pub spelling : Tree → List Symbol
 spelling (whole n) = Whole n ∷ []
 spelling real = Real ∷ []
 spelling pi = Pi ∷ []
+spelling (param n) = Param n ∷ []
 spelling (plus l r) = spelling l ++ (Plus ∷ spelling r)
 spelling (minus l r) = spelling l ++ (Minus ∷ spelling r)
 spelling (times l r) = spelling l ++ (Times ∷ spelling r)
@@ -59,6 +62,7 @@ pub record Algebra (X : Type 0) : Type 0 where
   pub of_whole : Option ℤ → X
   pub of_real : X
   pub of_pi : X
+  pub of_param : ℕ → X
   pub sum : X → X → X
   pub difference : X → X → X
   pub product : X → X → X
@@ -73,6 +77,7 @@ abbrev pub eval : {X : Type 0} → Algebra X → Tree → X
 eval o (whole n) = o.of_whole n
 eval o real = o.of_real
 eval o pi = o.of_pi
+eval o (param n) = o.of_param n
 eval o (plus l r) = o.sum (eval o l) (eval o r)
 eval o (minus l r) = o.difference (eval o l) (eval o r)
 eval o (times l r) = o.product (eval o l) (eval o r)

@@ -1,10 +1,11 @@
 -- What a lexeme stands for in an expression.
 use Prim.Native.Char.{code}
 use Rattle.std.specs.Prelude.{ℕ, ◌+◌, ◌-◌, ◌*◌, ◌^◌, cond, nat_eq, nat_le, nat_lt, List, [], ◌∷◌, length, map, Option, Some, None, ℤ, pos, codes}
-use Rattle.std.specs.List.{list_any}
+use Rattle.std.specs.List.{list_any, position_from}
+use Rattle.std.specs.Option.{option_map_or}
 use Rattle.std.specs.Str.{bytes_eq}
 use Rattle.qasm_lex.specs.declared.symbol.Symbol.{Symbol}
-use Rattle.qasm_lex.specs.declared.symbol.Symbol.TheVariants.{Whole, Real, Pi, Function, Plus, Minus, Times, Over, Caret, Open, Close, Other}
+use Rattle.qasm_lex.specs.declared.symbol.Symbol.TheVariants.{Whole, Real, Pi, Param, Function, Plus, Minus, Times, Over, Caret, Open, Close, Other}
 use Rattle.qasm_lex.specs.Lexemes.{Lexeme, word, whole, real, mark}
 use Rattle.qasm_lex.specs.Fractions.{most}
 
@@ -51,3 +52,15 @@ symbol_of _ = Other
 -- what lexemes stand for
 abbrev pub symbols : List Lexeme → List Symbol
 symbols lexemes = map symbol_of lexemes
+
+-- the number of the parameter of this name, counted from 0
+abbrev pub param_of : List (List ℕ) → List ℕ → Option ℕ
+param_of params name = position_from (bytes_eq name) 0 params
+
+-- the symbol of a lexeme where these are the names of parameters
+abbrev pub symbol_in : List (List ℕ) → Lexeme → Symbol
+symbol_in params (word bytes) = option_map_or Param (param_of params bytes) (word_symbol bytes)
+symbol_in params l = symbol_of l
+
+abbrev pub symbols_in : List (List ℕ) → List Lexeme → List Symbol
+symbols_in params lexemes = map (symbol_in params) lexemes

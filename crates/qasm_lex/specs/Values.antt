@@ -1,5 +1,5 @@
 -- The values of angles, u + v·π with fractions u and v, and the refusal that is met first.
-use Rattle.std.specs.Prelude.{cond, nat_le, unsigned_abs, Option, Some, None, Result, Ok, Err, ℤ, pos}
+use Rattle.std.specs.Prelude.{cond, nat_le, unsigned_abs, List, get_or, Option, Some, None, Result, Ok, Err, ℤ, pos}
 use Rattle.qasm_lex.specs.declared.value.Value.{Value}
 use Rattle.qasm_lex.specs.declared.refusal.AngleRefusal.{AngleRefusal}
 use Rattle.qasm_lex.specs.declared.refusal.AngleRefusal.TheVariants.{NotExact, ZeroDivisor, TooWide}
@@ -62,12 +62,14 @@ abbrev pub number_of : Option ℤ → Outcome
 number_of None = Err TooWide
 number_of (Some n) = cond (nat_le (unsigned_abs n) most) (Ok (whole_value n)) (Err TooWide)
 
--- what expressions stand for: functions, powers and decimal numbers are never exact, but their operands are refused first
-abbrev pub values : Algebra Outcome
-values = record {
+-- what expressions stand for, where the parameters have these values: functions, powers and decimal numbers are never exact, but their
+-- operands are refused first
+abbrev pub values : List Value → Algebra Outcome
+values given = record {
   of_whole = number_of;
   of_real = Err NotExact;
   of_pi = Ok pi_value;
+  of_param = λ n. Ok (get_or given n (whole_value (pos 0)));
   sum = both value_sum;
   difference = both value_difference;
   product = both value_product;

@@ -1,6 +1,6 @@
 //! Fractions in lowest terms.
 ghost use Rattle.std.specs.Prelude.{◌≡◌, ◌≤◌, ◌<◌, ◌^◌, ◌*◌, ℤ, pos, ◌≤ℤ◌, ◌<ℤ◌, ◌+ℤ◌, ◌*ℤ◌, unsigned_abs, int_div, false};
-ghost use Rattle.qasm_lex.specs.Fractions.{Ratio, most, greatest_divisor, narrowed, fraction, whole_ratio, is_zero, negative_ratio, reciprocal, ratio_sum, ratio_product};
+ghost use Rattle.qasm_lex.specs.Fractions.{Ratio, IsReduced, most, greatest_divisor, narrowed, fraction, whole_ratio, is_zero, negative_ratio, reciprocal, ratio_sum, ratio_product};
 
 use crate::divisor::gcd;
 use crate::pi_fraction::PiFraction;
@@ -110,6 +110,14 @@ impl Fraction {
         Fraction { num: n, den: 1 }
     }
 
+    /// The fraction of these parts.
+    pub fn of(num: i64, den: i64) -> Fraction
+        requires { IsReduced num den }
+        ensures { result ≡ record { num = num; den = den } }
+    {
+        Fraction { num, den }
+    }
+
     pub fn is_zero(self) -> bool
         ensures { result ≡ is_zero self }
     {
@@ -160,6 +168,7 @@ impl Fraction {
 
     /// The fraction as a multiple of π.
     pub fn of_pi(self) -> PiFraction
+        ensures reduced { IsReduced result.num result.den }
         ensures num { result.num ≡ self.num }
         ensures den { result.den ≡ self.den }
     {

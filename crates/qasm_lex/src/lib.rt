@@ -10,6 +10,7 @@ mod divisor;
 mod fraction;
 mod laws;
 mod number;
+mod params;
 mod pi_fraction;
 mod pieces;
 mod quarters;
@@ -19,7 +20,7 @@ mod symbol;
 mod token;
 mod value;
 
-pub use angles::angle;
+pub use angles::{angle, angle_shape, angle_value, outcome_of, shape_of};
 pub use laws::{
     angles_have_one_answer, angles_have_positive_denominators, eighths_are_unique,
     every_angle_has_an_answer, every_text_has_tokens, expressions_are_unambiguous, lowest_terms,
@@ -27,9 +28,10 @@ pub use laws::{
     tokens_are_at_most_the_bytes, tokens_are_the_lexemes, tokens_are_unique,
 };
 pub use number::number_below;
+pub use params::{AngleValue, Bound};
 pub use pi_fraction::PiFraction;
 pub use quarters::{eighth, quarter};
 pub use refusal::AngleRefusal;
 pub use scanning::tokens;
-pub use symbol::is_one_of;
+pub use symbol::{Symbol, is_one_of, symbol_of};
 pub use token::{Token, TokenKind, Tokens};

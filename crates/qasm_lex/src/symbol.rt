@@ -1,11 +1,13 @@
 //! Symbols of expressions.
-ghost use Rattle.std.specs.Prelude.{◌≡◌};
-ghost use Rattle.std.specs.List.{list_any};
+ghost use Rattle.std.specs.Prelude.{◌≡◌, All};
+ghost use Rattle.std.specs.List.{list_any, slice_range};
 ghost use Rattle.std.specs.Str.{bytes_eq};
 ghost use Rattle.qasm_lex.specs.Lexemes.{IsWithin, lexeme_of};
-ghost use Rattle.qasm_lex.specs.Symbols.{word_symbol, mark_symbol, symbol_of};
+ghost use Rattle.qasm_lex.specs.Symbols.{word_symbol, mark_symbol, symbol_of, param_of, symbol_in};
+ghost use Rattle.qasm_lex.specs.Angles.{IsBound, names_of};
 
 use crate::number::narrow_number;
+use crate::params::Bound;
 use crate::token::{Token, TokenKind};
 
 /// What a token stands for in an expression.
@@ -15,6 +17,8 @@ pub enum Symbol {
     Whole(Option<i64>),
     Real,
     Pi,
+    /// The parameter of this number, counted from 0.
+    Param(usize),
     /// `sin`, `cos`, `tan`, `exp`, `ln` or `sqrt`.
     Function,
     Plus,
@@ -65,7 +69,47 @@ fn mark_symbol(mark: u8) -> Symbol
     }
 }
 
-/// What a token of the text stands for.
+fn is_named(text: &[u8], bound: Bound, name: &[u8]) -> bool
+    requires { IsBound text.now bound }
+    ensures { result ≡ bytes_eq name.now (slice_range text.now bound.from bound.to) }
+{
+    let own = &text[bound.from as usize..bound.to as usize];
+    name == own
+}
+
+// The number of the parameter with this name.
+fn param_of(text: &[u8], bound: &[Bound], name: &[u8]) -> Option<usize>
+    requires { All (IsBound text.now) bound.now }
+    ensures { result ≡ param_of (names_of text.now bound.now) name.now }
+{
+    let mut number = 0;
+    let mut rest = bound;
+    while let Some((first, after)) = rest.split_first() {
+        if is_named(text, *first, name) {
+            return Some(number);
+        }
+        number += 1;
+        rest = after;
+    }
+    None
+}
+
+/// What a token of the text stands for, where these are the parameters.
+pub fn symbol_in(text: &[u8], token: Token, bound: &[Bound]) -> Symbol
+    requires token { IsWithin text.now token }
+    requires bound { All (IsBound text.now) bound.now }
+    ensures { result ≡ symbol_in (names_of text.now bound.now) (lexeme_of text.now token) }
+{
+    if token.kind == TokenKind::Word {
+        let name = &text[token.from as usize..token.to as usize];
+        if let Some(number) = param_of(text, bound, name) {
+            return Symbol::Param(number);
+        }
+    }
+    symbol_of(text, token)
+}
+
+/// What a token of the text stands for, where it names no parameter.
 pub fn symbol_of(text: &[u8], token: Token) -> Symbol
     requires { IsWithin text.now token }
     ensures { result ≡ symbol_of (lexeme_of text.now token) }

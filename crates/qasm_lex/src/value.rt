@@ -1,9 +1,12 @@
 //! Values of angles.
-ghost use Rattle.std.specs.Prelude.{◌≡◌, ◌≤◌, unsigned_abs, Ok, Err, Option, Some};
+ghost use Rattle.std.specs.Prelude.{◌≡◌, ◌≤◌, unsigned_abs, Ok, Err, Option, Some, []};
 ghost use Rattle.qasm_lex.specs.Fractions.{most};
+ghost use Rattle.qasm_lex.specs.Angles.{answer_of, value_by, given_by};
 ghost use Rattle.qasm_lex.specs.Values.{whole_value, pi_value, negative_value, value_sum, value_difference, scaled, value_product, value_quotient, values, multiple_of};
 
 use crate::fraction::Fraction;
+use crate::params::{AngleValue, Bound};
+use crate::pi_fraction::PiFraction;
 use crate::refusal::AngleRefusal;
 
 /// `u + v·π`.
@@ -27,6 +30,29 @@ impl Value {
         Value {
             u: Fraction::whole(n),
             v: Fraction::whole(0),
+        }
+    }
+
+    fn bound(value: AngleValue) -> Value
+        ensures { result ≡ value_by value }
+    {
+        Value {
+            u: Fraction::of(value.u_num, value.u_den),
+            v: Fraction::of(value.v_num, value.v_den),
+        }
+    }
+
+    /// The value by its numbers.
+    pub fn shown(self) -> AngleValue
+        ensures { value_by result ≡ self }
+    {
+        let u = self.u.of_pi();
+        let v = self.v.of_pi();
+        AngleValue {
+            u_num: u.num,
+            u_den: u.den,
+            v_num: v.num,
+            v_den: v.den,
         }
     }
 
@@ -93,9 +119,25 @@ impl Value {
     }
 }
 
+impl AngleValue {
+    /// The multiple of π that it is.
+    pub fn of_pi(self) -> Result<PiFraction, AngleRefusal>
+        ensures { answer_of result ≡ multiple_of (Ok (value_by self)) }
+    {
+        if self.u_num == 0 {
+            Ok(PiFraction {
+                num: self.v_num,
+                den: self.v_den,
+            })
+        } else {
+            Err(AngleRefusal::NotExact)
+        }
+    }
+}
+
 /// The value of a whole number, where it isn't too wide.
 pub fn number(n: Option<i64>) -> Outcome
-    ensures { result ≡ values.of_whole n }
+    ensures { result ≡ (values []).of_whole n }
 {
     match n {
         Some(k) if k.unsigned_abs() <= MOST => Ok(Value::whole(k)),
@@ -104,7 +146,7 @@ pub fn number(n: Option<i64>) -> Outcome
 }
 
 pub fn pi() -> Outcome
-    ensures { result ≡ values.of_pi }
+    ensures { result ≡ (values []).of_pi }
 {
     Ok(Value {
         u: Fraction::whole(0),
@@ -112,39 +154,49 @@ pub fn pi() -> Outcome
     })
 }
 
+/// The value of the parameter of this number.
+pub fn param(bound: &[Bound], number: usize) -> Outcome
+    ensures { result ≡ (values (given_by bound.now)).of_param number }
+{
+    match bound.get(number) {
+        Some(b) => Ok(Value::bound(b.value)),
+        None => Ok(Value::whole(0)),
+    }
+}
+
 pub fn sum(x: Outcome, y: Outcome) -> Outcome
-    ensures { result ≡ values.sum x y }
+    ensures { result ≡ (values []).sum x y }
 {
     x?.plus(y?)
 }
 
 pub fn difference(x: Outcome, y: Outcome) -> Outcome
-    ensures { result ≡ values.difference x y }
+    ensures { result ≡ (values []).difference x y }
 {
     x?.minus(y?)
 }
 
 pub fn product(x: Outcome, y: Outcome) -> Outcome
-    ensures { result ≡ values.product x y }
+    ensures { result ≡ (values []).product x y }
 {
     x?.times(y?)
 }
 
 pub fn quotient(x: Outcome, y: Outcome) -> Outcome
-    ensures { result ≡ values.quotient x y }
+    ensures { result ≡ (values []).quotient x y }
 {
     x?.over(y?)
 }
 
 pub fn negative(x: Outcome) -> Outcome
-    ensures { result ≡ values.negative x }
+    ensures { result ≡ (values []).negative x }
 {
     Ok(x?.negative())
 }
 
 /// A power is never exact, but the refusals of its operands come first.
 pub fn power(x: Outcome, y: Outcome) -> Outcome
-    ensures { result ≡ values.power x y }
+    ensures { result ≡ (values []).power x y }
 {
     let _ = x?;
     let _ = y?;
@@ -153,7 +205,7 @@ pub fn power(x: Outcome, y: Outcome) -> Outcome
 
 /// What a function gives is never exact, but the refusal of its operand comes first.
 pub fn call(x: Outcome) -> Outcome
-    ensures { result ≡ values.call x }
+    ensures { result ≡ (values []).call x }
 {
     let _ = x?;
     Err(AngleRefusal::NotExact)

@@ -15,9 +15,10 @@ use Rattle.qasm_reader.specs.declared.registers.Miss.{Miss}
 use Rattle.qasm_reader.specs.declared.reason.Why.{Why}
 use Rattle.qasm_reader.specs.declared.reason.Why.TheVariants.{UnknownRegister, WrongCount, SizesDiffer, RepeatedQubit, Measured, TooManyGates}
 use Rattle.qasm_reader.specs.Acts.{Register, Target, target, targets, wholes, place_count, qubit_at, qubits_at, product}
-use Rattle.qasm_reader.specs.Calls.{Base, Named, gate, turn, phase, base_arity, base_angles, arity, angle_count, one}
+use Rattle.qasm_gates.specs.Gates.{Base, Builtin, gate, turn, phase, base_arity, base_angles, arity, angle_count, one}
 use Rattle.qasm_reader.specs.Reasons.{is_unknown, is_beyond, miscounts}
-use Rattle.qasm_reader.specs.Private.Scope.{Taken, found_as, find, both_found, differ, repeats, touches, items_of, bodies, counted, outcome_on}
+use Rattle.qasm_gates.specs.Private.Seen.{items_of}
+use Rattle.qasm_reader.specs.Private.Scope.{Taken, found_as, find, both_found, differ, repeats, touches, bodies, counted, outcome_on}
 use Rattle.qasm_reader.specs.Private.Drafts.{Draft, IsDraft, with_gates, bodied, counted_on, applied, gate_on}
 use Rattle.qasm_reader.proofs.Facts.{passes}
 use Rattle.qasm_reader.proofs.Looking.{length_targets}
@@ -33,12 +34,12 @@ base_few (turn forth back) = (omega arith, omega arith)
 base_few phase = (omega arith, omega arith)
 
 -- what a test of counts says
-pub record CountsRight (called : Named) (n k : ℕ) : Type 0 where
+pub record CountsRight (called : Builtin) (n k : ℕ) : Type 0 where
   pub test : miscounts (Some called) n k ≡ false
   pub arguments : n ≡ arity called
   pub angles : k ≡ angle_count called
 
-counts_right : (called : Named) (n k : ℕ) → nat_eq n (arity called) && nat_eq k (angle_count called) ≡ true → CountsRight called n k
+counts_right : (called : Builtin) (n k : ℕ) → nat_eq n (arity called) && nat_eq k (angle_count called) ≡ true → CountsRight called n k
 counts_right called n k e =
     let p = and_parts _ _ e in
     record {
@@ -53,19 +54,19 @@ not_both true false e = refl
 not_both false b e = refl
 
 -- what is known of a call of which nothing misses, and the test of its counts
-pub record Met (d : Draft) (called : Named) (n : ℕ) (all : List Argument) (right : Bool) : Type 0 where
+pub record Met (d : Draft) (called : Builtin) (n : ℕ) (all : List Argument) (right : Bool) : Type 0 where
   pub known : list_any (is_unknown d.registers true) all ≡ false
   pub within : list_any (is_beyond d.registers) all ≡ false
   pub tested : right ≡ nat_eq (length all) (arity called) && nat_eq n (angle_count called)
 
 -- that it has as many arguments and angles as its gate
-pub record Looked (d : Draft) (called : Named) (n : ℕ) (all : List Argument) (ts : List Target) : Type 0 where
+pub record Looked (d : Draft) (called : Builtin) (n : ℕ) (all : List Argument) (ts : List Target) : Type 0 where
   pub known : list_any (is_unknown d.registers true) all ≡ false
   pub within : list_any (is_beyond d.registers) all ≡ false
   pub counts : CountsRight called (length all) n
   pub are : targets d.registers all ≡ Some ts
 
-module _ (d : Draft) (called : Named) (few : called.controls ≤ 8) (n : ℕ) (all : List Argument) (r : List (List ℕ × Register)) (regs : r ≡ d.registers) where
+module _ (d : Draft) (called : Builtin) (few : called.controls ≤ 8) (n : ℕ) (all : List Argument) (r : List (List ℕ × Register)) (regs : r ≡ d.registers) where
   arity_few : arity called ≤ 11
   arity_few = let f = (base_few called.base).0 in omega arith
 
@@ -89,7 +90,7 @@ module _ (d : Draft) (called : Named) (few : called.controls ≤ 8) (n : ℕ) (a
       let most = arity_few in
       record { known = m.known; within = m.within; counts = counts; are = ap (λ r. targets r all) (sym regs) ∙ means (omega arith) }
 
-pub miscounted : (d : Draft) (called : Named) (n : ℕ) (all : List Argument) (right : Bool) (t : Taken) → Met d called n all right → right ≡ false → Err WrongCount ≡ gate_on d called n t all
+pub miscounted : (d : Draft) (called : Builtin) (n : ℕ) (all : List Argument) (right : Bool) (t : Taken) → Met d called n all right → right ≡ false → Err WrongCount ≡ gate_on d called n t all
 miscounted d called n all right t m e =
     sym (cond-false _ _ _ m.known ∙ cond-false _ _ _ m.within ∙ cond-true _ _ _ (not_both (nat_eq (length all) (arity called)) (nat_eq n (angle_count called)) (sym m.tested ∙ e)))
 
@@ -118,7 +119,7 @@ module _ (n : ℕ) (d : Draft) (ts : List Target) where
       finished_cond (differ (wholes ts)) SizesDiffer _ _ (finished_cond (repeats ts) RepeatedQubit _ _ (counted_finished body ∙ ap (counted_on d ts) e))
 
 -- what comes of a call
-pub comes_to : (d : Draft) (called : Named) (n : ℕ) (t : Taken) (all : List Argument) (ts : List Target) (body : Result (Kind × ℕ) Why) → Looked d called n all ts → bodies called.controls body ≡ bodied t
+pub comes_to : (d : Draft) (called : Builtin) (n : ℕ) (t : Taken) (all : List Argument) (ts : List Target) (body : Result (Kind × ℕ) Why) → Looked d called n all ts → bodies called.controls body ≡ bodied t
     → finished called.controls d ts (outcome_on body ts d.measured (length d.gates)) ≡ gate_on d called n t all
 comes_to d called n t all ts body l e =
     outcome_applied called.controls d ts t body e
@@ -149,7 +150,7 @@ kind_is (Ok x) p e h = let q : x ≡ p = cc in subst (λ (y : Kind × ℕ). IsKi
 kind_is (Err w) p e h = absurd cc
 
 -- the gates of a call that goes on may be applied
-pub placed_call : (d : Draft) → IsDraft d → (called : Named) → called.controls ≤ 8 → (n : ℕ) (all : List Argument) (ts : List Target) (body : Result (Kind × ℕ) Why) (flags : List Bool) (gates : ℕ) (p : Kind × ℕ)
+pub placed_call : (d : Draft) → IsDraft d → (called : Builtin) → called.controls ≤ 8 → (n : ℕ) (all : List Argument) (ts : List Target) (body : Result (Kind × ℕ) Why) (flags : List Bool) (gates : ℕ) (p : Kind × ℕ)
     → Looked d called n all ts → IfOk body (λ q. arity_of q.0 ≡ base_arity called.base) → IfOk body (λ q. IsKind q.0) → outcome_on body ts flags gates ≡ Ok p
     → (place : ℕ) → place < place_count ts → IsPlaced p.0 (take called.controls (qubits_at ts place)) (drop called.controls (qubits_at ts place))
 placed_call d i called few n all ts body flags gates p l a k e place h =
@@ -158,7 +159,7 @@ placed_call d i called few n all ts body flags gates p l a k e place h =
     (placed_on d.qubits d.registers i.few_qubits i.registers_end all ts called.controls p.0 place l.known l.within l.are few (kind_is body p s.does k) count s.alike s.once h).placed
 
 -- a call has at least its further controls
-pub enough_targets : (d : Draft) (called : Named) (n : ℕ) (all : List Argument) (ts : List Target) → Looked d called n all ts → called.controls ≤ length ts
+pub enough_targets : (d : Draft) (called : Builtin) (n : ℕ) (all : List Argument) (ts : List Target) → Looked d called n all ts → called.controls ≤ length ts
 enough_targets d called n all ts l = let e = length_targets d.registers all ts l.are in let c = l.counts.arguments in omega arith
 
 -- the first of two that are found
@@ -178,7 +179,7 @@ found_below d i from other p e place h =
     qubit_below d.qubits d.registers i.registers_end from p.0 f.0 f.1 f.2 place h
 
 -- at most one angle is the first of them
-pub one_listed : (called : Named) (angles : List (List Lexeme)) (first : Option (List Lexeme)) → first ≡ slice_get angles 0 → length angles ≡ angle_count called → option_to_list first ≡ angles
+pub one_listed : (called : Builtin) (angles : List (List Lexeme)) (first : Option (List Lexeme)) → first ≡ slice_get angles 0 → length angles ≡ angle_count called → option_to_list first ≡ angles
 one_listed called [] first e l = ap option_to_list e
 one_listed called (a ∷ []) first e l = ap option_to_list e
 one_listed called (a ∷ b ∷ more) first e l = absurd (let f = (base_few called.base).1 in omega arith)

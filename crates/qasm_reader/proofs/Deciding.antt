@@ -13,8 +13,9 @@ use Rattle.qasm_lex.specs.Symbols.{decimal}
 use Rattle.qasm_forms.specs.Statements.{Statement, version, qubits, bits, measure, call, Argument}
 use Rattle.qasm_reader.specs.declared.reason.Why.{Why}
 use Rattle.qasm_reader.specs.declared.reason.Why.TheVariants.{BadByte, NoVersion, NotAStatement, OutOfProfile, UnknownName, Redeclared, UnknownRegister, IndexOutOfRange, WrongCount, SizesDiffer, RepeatedQubit, AngleRefused, OffGrid, Measured, TooManyQubits, TooManyGates}
-use Rattle.qasm_reader.specs.Acts.{Act, Register, Target, nothing, declares, applies, registers, target, targets, wholes, place_count, qubits_at, up_to, is_among, measured, qubit_count, gates, measures}
-use Rattle.qasm_reader.specs.Calls.{Named, Gives, listed, Calls, Does}
+use Rattle.qasm_gates.specs.Gates.{up_to, Builtin, Gives}
+use Rattle.qasm_reader.specs.Acts.{Act, Register, Target, nothing, declares, applies, registers, target, targets, wholes, place_count, qubits_at, is_among, measured, qubit_count, gates, measures}
+use Rattle.qasm_reader.specs.Calls.{listed, Calls, Does}
 use Rattle.qasm_reader.specs.Parts.{Part, Has}
 use Rattle.qasm_reader.specs.Reasons.{out_of_profile, unknown_name, redeclared, unknown_register, out_of_range, wrong_count, Breaks, Holds, Refuses, IsFree, AreUnequal, DifferInSize, AtSomePlace, Repeats, Meets, IsOffGrid, angles_of, called_in, order}
 use Rattle.qasm_reader.specs.Private.Scope.{Taken, Yields, other_than, differ, has_twice, other_count}
@@ -26,7 +27,7 @@ abbrev pub refusal_of : Taken → Why
 refusal_of (Err e) = AngleRefused e
 refusal_of (Ok x) = OffGrid
 
-abbrev pub is_off : Option Named → Taken → Bool
+abbrev pub is_off : Option Builtin → Taken → Bool
 is_off (Some called) (Ok None) = true
 is_off _ _ = false
 
@@ -62,7 +63,7 @@ abbrev pub exceeds : ℕ → Option Act → (Act → ℕ) → Bool
 exceeds most act count = option_map_or (λ a. nat_lt most (count a)) act false
 
 -- the tests of a statement whose angles come to this, each with its reason
-abbrev pub tests : ℕ → List Act → Statement → Option Named → Taken → List (Bool × Why)
+abbrev pub tests : ℕ → List Act → Statement → Option Builtin → Taken → List (Bool × Why)
 tests limit before s called t =
     (out_of_profile s, OutOfProfile) ∷ (unknown_name before s, UnknownName) ∷ (redeclared (registers before) s, Redeclared)
     ∷ (unknown_register (registers before) s, UnknownRegister) ∷ (out_of_range (registers before) s, IndexOutOfRange) ∷ (wrong_count before s, WrongCount)
@@ -226,11 +227,11 @@ refused_order : (t : Taken) → is_err t ≡ true → order (refusal_of t) ≡ 1
 refused_order (Err e) b = refl
 refused_order (Ok x) b = absurd cc
 
-off_tells : (named : Option Named) (angles : List (List Lexeme)) (t : Taken) → Yields named angles t → is_off named t ≡ true → IsOffGrid named angles
+off_tells : (named : Option Builtin) (angles : List (List Lexeme)) (t : Taken) → Yields named angles t → is_off named t ≡ true → IsOffGrid named angles
 off_tells (Some called) angles (Ok None) y b = record { called = called; values = y.0; is = refl; valued = y.1; none = λ items g. y.2 called items refl g }
 off_tells _ angles _ y b = absurd cc
 
-off_told : (named : Option Named) (angles : List (List Lexeme)) (t : Taken) → Yields named angles t → IsOffGrid named angles → is_off named t ≡ true
+off_told : (named : Option Builtin) (angles : List (List Lexeme)) (t : Taken) → Yields named angles t → IsOffGrid named angles → is_off named t ≡ true
 off_told named angles t y o =
     let q : t ≡ Ok None = yields_one named angles t (Ok None) y (o.values, o.valued, λ called items e g. o.none items (subst (λ c. Gives c o.values items) (same_Some called o.called (sym e ∙ o.is)) g)) in
     ap (λ x. is_off x t) o.is ∙ ap (is_off (Some o.called)) q

@@ -16,7 +16,8 @@ use Rattle.qasm_reader.specs.declared.reason.Why.{Why}
 use Rattle.qasm_reader.specs.declared.reason.Why.TheVariants.{BadByte, NoVersion, NotAStatement, UnknownName, UnknownRegister, AngleRefused, OffGrid}
 use Rattle.qasm_reader.specs.Acts.{Act, nothing, declares, measures, applies, registers, circuit_of}
 use Rattle.qasm_reader.specs.Profile.{leaves}
-use Rattle.qasm_reader.specs.Calls.{Named, gate_named, listed, Does}
+use Rattle.qasm_gates.specs.Gates.{Builtin}
+use Rattle.qasm_reader.specs.Calls.{gate_named, listed, Does}
 use Rattle.qasm_reader.specs.Parts.{Part, parts_of, Has}
 use Rattle.qasm_reader.specs.Reasons.{Refuses, IsFree, is_unknown, angles_of, called_in}
 use Rattle.qasm_reader.specs.Reading.{Accepts, AllAccepted, Reading, circuit, refusal, IsRefused, Reads, ReadsAs}
@@ -29,7 +30,7 @@ use Rattle.qasm_reader.proofs.Yielding.{every_yield}
 
 module _ (limit : ℕ) (before : List Act) (part : Part) where
   module _ (free : IsFree limit before part) where
-    call_does : (name : List ℕ) (angles : Option (List (List Lexeme))) (all : List Argument) → Has before part (call name angles all) → (named : Option Named) → gate_named before name ≡ named
+    call_does : (name : List ℕ) (angles : Option (List (List Lexeme))) (all : List Argument) → Has before part (call name angles all) → (named : Option Builtin) → gate_named before name ≡ named
         → (t : Taken) → Yields named (listed angles) t → (act : Act) × Does before (call name angles all) act
     call_does name angles all h None b t y = absurd (free UnknownName (call name angles all, h, ap (λ g. not (is_some g)) b))
     call_does name angles all h (Some called) b (Err e) y = absurd (free (AngleRefused e) (call name angles all, h, y))

@@ -13,9 +13,10 @@ use Rattle.qasm_forms.proofs.Exact.{statements_same}
 use Rattle.qasm_reader.specs.declared.registers.Miss.{Miss}
 use Rattle.qasm_reader.specs.declared.reason.Why.{Why}
 use Rattle.qasm_reader.specs.declared.reason.Why.TheVariants.{UnknownRegister, Redeclared, IndexOutOfRange, WrongCount, SizesDiffer, RepeatedQubit, Measured, TooManyQubits, TooManyGates}
-use Rattle.qasm_reader.specs.Acts.{Act, Target, Item, nothing, declares, measures, applies, registers, target, targets, wholes, place_count, qubits_of, product, measured}
+use Rattle.qasm_gates.specs.Gates.{Item, Builtin, builtin, arity, angle_count}
+use Rattle.qasm_reader.specs.Acts.{Act, Target, nothing, declares, measures, applies, registers, target, targets, wholes, place_count, qubits_of, product, measured}
 use Rattle.qasm_reader.specs.Profile.{leaves}
-use Rattle.qasm_reader.specs.Calls.{Named, builtin, arity, angle_count, listed, Does}
+use Rattle.qasm_reader.specs.Calls.{listed, Does}
 use Rattle.qasm_reader.specs.Parts.{Part, Has}
 use Rattle.qasm_reader.specs.Reasons.{Refuses, is_unknown, is_beyond, angles_of, called_in}
 use Rattle.qasm_reader.specs.Private.Scope.{Taken, Yields, find, differ, repeats, other_count}
@@ -104,7 +105,7 @@ module _ (limit : ℕ) (few : limit ≤ 64) (before : List Act) (d : Draft) (f :
       )
 
   call_done : (name : List ℕ) (angles : Option (List (List Lexeme))) (all : List Argument) (t : Taken) (e : Draft) → Yields (builtin name) (listed angles) t
-      → (g : Option Named) → builtin name ≡ g → call_on d g (length (listed angles)) t all ≡ Ok e → Done (call name angles all) e
+      → (g : Option Builtin) → builtin name ≡ g → call_on d g (length (listed angles)) t all ≡ Ok e → Done (call name angles all) e
   call_done name angles all t e y None b h = absurd cc
   call_done name angles all t e y (Some called) b h =
       let p = passes _ UnknownRegister _ e h in

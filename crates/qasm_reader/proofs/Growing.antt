@@ -9,10 +9,11 @@ use Rattle.std.proofs.lemmas.List.Folds.{list_any-append, list_any_none}
 use Rattle.std.proofs.lemmas.Grind.{flat_map-append}
 use Rattle.gate_set.specs.declared.gate.Gate.{Gate}
 use Rattle.gate_set.specs.Shape.{IsOn}
-use Rattle.qasm_reader.specs.Acts.{Act, nothing, declares, measures, applies, Register, Target, Item, qubits_in, qubit_count, registers_in, registers_from, registers, place_count, qubit_at, qubits_at, up_to, placed, product, gates_in, gates, qubits_of, measured_in, measured, is_among}
+use Rattle.qasm_gates.specs.Gates.{Item, up_to, placed}
+use Rattle.qasm_reader.specs.Acts.{Act, nothing, declares, measures, applies, Register, Target, qubits_in, qubit_count, registers_in, registers_from, registers, place_count, qubit_at, qubits_at, product, gates_in, gates, qubits_of, measured_in, measured, is_among}
 use Rattle.qasm_reader.specs.Private.Scope.{flagged}
 use Rattle.qasm_reader.specs.Private.Drafts.{Draft, EndsWithin, IsDraft, draft_of, Follows, with_qubits, with_bits, raised, with_measured, with_gates}
-use Rattle.qasm_reader.proofs.Applied.{replicate_next}
+use Rattle.qasm_gates.proofs.Placed.{replicate_next}
 use Rattle.std.proofs.Math.Bool.{or-false}
 
 length-up_to : (n : ℕ) → length (up_to n) ≡ n

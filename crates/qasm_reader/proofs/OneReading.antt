@@ -8,7 +8,8 @@ use Rattle.qasm_reader.specs.declared.reason.ReadStop.{ReadStop}
 use Rattle.qasm_reader.specs.declared.reason.ReadStop.TheVariants.{Refused as Stopped, OutOfMemory}
 use Rattle.gate_set.specs.Circuits.{Circuit}
 use Rattle.qasm_forms.specs.Statements.{Statement, measure, call, Argument}
-use Rattle.qasm_reader.specs.Acts.{Act, Item, Target, measures, applies, circuit_of}
+use Rattle.qasm_gates.specs.Gates.{Item}
+use Rattle.qasm_reader.specs.Acts.{Act, Target, measures, applies, circuit_of}
 use Rattle.qasm_reader.specs.Calls.{gate_named, Calls, Does}
 use Rattle.qasm_reader.specs.Parts.{Part, parts_of}
 use Rattle.qasm_reader.specs.Reasons.{Holds, Refuses, IsFree}

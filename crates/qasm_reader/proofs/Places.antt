@@ -6,7 +6,7 @@ use Rattle.std.proofs.lemmas.Bool.{or_from}
 use Rattle.std.proofs.lemmas.Bool.Decides.{Decides-below_or}
 use Rattle.std.proofs.lemmas.List.Folds.{list_any-append}
 use Rattle.std.proofs.Math.Bool.{or-false, or_comm}
-use Rattle.qasm_reader.specs.Acts.{up_to}
+use Rattle.qasm_gates.specs.Gates.{up_to}
 
 any_next : (f : ℕ → Bool) (n : ℕ) → list_any f (up_to (suc n)) ≡ f n || list_any f (up_to n)
 any_next f n = list_any-append f (up_to n) (n ∷ []) ∙ ap (λ b. list_any f (up_to n) || b) (or-false (f n)) ∙ or_comm (list_any f (up_to n)) (f n)

@@ -8,8 +8,9 @@ use Rattle.qasm_lex.specs.Symbols.{decimal}
 use Rattle.qasm_forms.specs.Statements.{Statement, version, include, qubits, bits, barrier, measure, call, left_out, Argument}
 use Rattle.qasm_reader.specs.declared.reason.Why.{Why}
 use Rattle.qasm_reader.specs.declared.reason.Why.TheVariants.{OutOfProfile, UnknownName, Redeclared, UnknownRegister, IndexOutOfRange, WrongCount, SizesDiffer, RepeatedQubit, AngleRefused, OffGrid, Measured, TooManyQubits, TooManyGates}
-use Rattle.qasm_reader.specs.Acts.{Act, nothing, declares, measures, applies, Target, Item, registers, measured, qubit_count, qubits_in, gates, gates_in, product, target, targets, wholes, place_count, qubits_at, qubits_of, up_to, is_among}
-use Rattle.qasm_reader.specs.Calls.{Named, builtin, listed}
+use Rattle.qasm_gates.specs.Gates.{Item, up_to, Builtin, builtin}
+use Rattle.qasm_reader.specs.Acts.{Act, nothing, declares, measures, applies, Target, registers, measured, qubit_count, qubits_in, gates, gates_in, product, target, targets, wholes, place_count, qubits_at, qubits_of, is_among}
+use Rattle.qasm_reader.specs.Calls.{listed}
 use Rattle.qasm_reader.specs.Reasons.{is_unknown, is_beyond, no_size, miscounts, angles_of, called_in}
 use Rattle.qasm_reader.specs.Private.Scope.{Taken, Yields, found_as, both_found, touches, repeats, differ, has_twice, other_count}
 use Rattle.qasm_reader.proofs.Deciding.{is_off, refusal_of, if_all, if_two, act_on, exceeds, tests, first_of}
@@ -120,7 +121,7 @@ module _ (limit : ℕ) (before : List Act) (few : qubit_count before ≤ limit) 
       any_same _ _ (λ place. any_same _ _ (λ q. flagged_is (qubit_count before) (measured before) q marked) (qubits_at ts place)) (up_to (place_count ts))
 
   -- the tests of a call after its counts
-  abbrev after_counts : Option Named → Taken → Option (List Target) → Option Why
+  abbrev after_counts : Option Builtin → Taken → Option (List Target) → Option Why
   after_counts named t x =
       cond (if_all x (λ ts. differ (wholes ts))) (Some SizesDiffer)
       (cond (if_all x (λ ts. list_any (λ place. has_twice (qubits_at ts place)) (up_to (place_count ts)))) (Some RepeatedQubit)
@@ -130,7 +131,7 @@ module _ (limit : ℕ) (before : List Act) (few : qubit_count before ≤ limit) 
       (cond (exceeds limit (act_on t x) (λ act. qubit_count (before ++ act ∷ []))) (Some TooManyQubits)
       (cond (exceeds 1000000 (act_on t x) (λ act. length (gates (before ++ act ∷ [])))) (Some TooManyGates) None))))))
 
-  told_applied : (called : Named) (t : Taken) (ts : List Target) → why_of (applied (draft_of before) t ts) ≡ after_counts (Some called) t (Some ts)
+  told_applied : (called : Builtin) (t : Taken) (ts : List Target) → why_of (applied (draft_of before) t ts) ≡ after_counts (Some called) t (Some ts)
   told_applied called (Err e) ts = why_cond (differ (wholes ts)) SizesDiffer _ _ (why_cond (repeats ts) RepeatedQubit (Err (AngleRefused e)) _ refl)
   told_applied called (Ok None) ts = why_cond (differ (wholes ts)) SizesDiffer _ _ (why_cond (repeats ts) RepeatedQubit (Err OffGrid) _ refl)
   told_applied called (Ok (Some items)) ts =
@@ -140,14 +141,14 @@ module _ (limit : ℕ) (before : List Act) (few : qubit_count before ≤ limit) 
 
   module _ (name : List ℕ) (angles : Option (List (List Lexeme))) (all : List Argument) (t : Taken) where
     -- the tests of a call of what its name stands for
-    abbrev pub of_named : Option Named → Option Why
+    abbrev pub of_named : Option Builtin → Option Why
     of_named named =
         cond (not (is_some named)) (Some UnknownName)
         (cond (list_any (is_unknown (registers before) true) all || false) (Some UnknownRegister)
         (cond (list_any (is_beyond (registers before)) all || false) (Some IndexOutOfRange)
         (cond (miscounts named (length all) (length (listed angles))) (Some WrongCount) (after_counts named t (targets (registers before) all)))))
 
-    told_named : (named : Option Named) → why_of (call_on (draft_of before) named (length (listed angles)) t all) ≡ of_named named
+    told_named : (named : Option Builtin) → why_of (call_on (draft_of before) named (length (listed angles)) t all) ≡ of_named named
     told_named None = refl
     told_named (Some called) =
         why_past _ UnknownRegister _ _ (λ u. why_cond _ IndexOutOfRange _ _ (why_cond _ WrongCount _ _

@@ -14,8 +14,8 @@ use Rattle.qasm_lex.proofs.OneAnswer.{one_answer}
 use Rattle.qasm_lex.proofs.OneQuarters.{one_quarters, one_eighths}
 use Rattle.qasm_lex.proofs.Denominators.{answer_positive}
 use Rattle.qasm_lex.proofs.EveryAnswer.{every_answer, quarters_or_none}
-use Rattle.qasm_reader.specs.Acts.{Item}
-use Rattle.qasm_reader.specs.Calls.{Base, Named, gate, turn, phase, base_angles, angle_count, one, turns, Gives, plain, turned, phased, AreValues}
+use Rattle.qasm_gates.specs.Gates.{Item, Base, Builtin, gate, turn, phase, base_angles, angle_count, one, turns, Gives, plain, turned, phased}
+use Rattle.qasm_reader.specs.Calls.{AreValues}
 use Rattle.qasm_reader.specs.Reasons.{FirstRefused}
 use Rattle.qasm_reader.specs.declared.reason.Why.TheVariants.{AngleRefused, OffGrid}
 use Rattle.qasm_reader.specs.Private.Scope.{Taken, Yields}
@@ -108,7 +108,7 @@ forth_same f b g d e = cc
 back_same : (f b g d : Kind) → turn f b ≡ turn g d → b ≡ d
 back_same f b g d e = cc
 
-gives_one : (called : Named) (angles : List (List Lexeme)) (values : List Ratio) (a b : List Item) → AreValues angles values → Gives called values a → Gives called values b → a ≡ b
+gives_one : (called : Builtin) (angles : List (List Lexeme)) (values : List Ratio) (a b : List Item) → AreValues angles values → Gives called values a → Gives called values b → a ≡ b
 gives_one called angles values a b h (plain k n v i) (plain l m w j) = i ∙ ap (λ x. one called.controls x ∷ []) (gate_same k l (sym n ∙ m)) ∙ sym j
 gives_one called angles values a b h (plain k n v i) (turned fo ba g m o w q j) = absurd (let e : gate k ≡ turn fo ba = sym n ∙ o in cc)
 gives_one called angles values a b h (plain k n v i) (phased g m o w q j) = absurd (let e : gate k ≡ phase = sym n ∙ o in cc)
@@ -137,10 +137,10 @@ eighths_or_none f p = elim (quarters_or_none (record { num = f.num *ℤ pos 2; d
     four = omega (arith, ints)
 
 -- or gives nothing
-Given : Named → List Ratio → Type 0
+Given : Builtin → List Ratio → Type 0
 Given called values = ((items : List Item) × Gives called values items) ⊎ ((items : List Item) → Gives called values items → ⊥)
 
-module _ (called : Named) where
+module _ (called : Builtin) where
   pub turn_off : (fo ba : Kind) (f : Ratio) → called.base ≡ turn fo ba → ((m : ℕ) → IsQuarters f m → ⊥) → (items : List Item) → Gives called (f ∷ []) items → ⊥
   turn_off fo ba f e off items (plain l n v i) = cc
   turn_off fo ba f e off items (turned fi bi g m n v q i) = off m (subst (λ x. IsQuarters x m) (sym (same_first v)) q)
@@ -187,7 +187,7 @@ module _ (called : Named) where
       by (turn fo ba) e (f ∷ g ∷ values) h = inr (two_given f g values)
       by phase e (f ∷ g ∷ values) h = inr (two_given f g values)
 
-yield_of : (named : Option Named) (angles : List (List Lexeme)) (values : List Ratio) → AreValues angles values → (t : Taken) × Yields named angles t
+yield_of : (named : Option Builtin) (angles : List (List Lexeme)) (values : List Ratio) → AreValues angles values → (t : Taken) × Yields named angles t
 unfolding Given
 yield_of None angles values h = (Ok None, (values, h, λ called items e g. absurd cc))
 yield_of (Some called) angles values h = by (given called angles values h)
@@ -197,7 +197,7 @@ yield_of (Some called) angles values h = by (given called angles values h)
     by (inr n) = (Ok None, (values, h, λ other items e g. n items (subst (λ c. Gives c values items) (sym (same_Some called other e)) g)))
 
 -- angles come to something
-pub every_yield : (named : Option Named) (angles : List (List Lexeme)) → (t : Taken) × Yields named angles t
+pub every_yield : (named : Option Builtin) (angles : List (List Lexeme)) → (t : Taken) × Yields named angles t
 unfolding Answered
 every_yield named angles = by (answered angles)
   where
@@ -206,7 +206,7 @@ every_yield named angles = by (answered angles)
     by (inr p) = (Err p.0, p.1)
 
 -- and to one thing
-pub yields_one : (named : Option Named) (angles : List (List Lexeme)) (t u : Taken) → Yields named angles t → Yields named angles u → t ≡ u
+pub yields_one : (named : Option Builtin) (angles : List (List Lexeme)) (t u : Taken) → Yields named angles t → Yields named angles u → t ≡ u
 yields_one named angles (Err d) (Err e) p q = ap Err (first_one angles d e p q)
 yields_one named angles (Err d) (Ok None) p q = absurd (valued_or_refused angles q.0 d q.1 p)
 yields_one named angles (Err d) (Ok (Some b)) p q = absurd (valued_or_refused angles q.1 d q.3 p)
@@ -230,7 +230,7 @@ quiet (Err e) y = absurd (none y.good y.angle y.more y.split)
     none (g ∷ good) angle more e = cc
 
 -- what the one angle of a call comes to
-module _ (called : Named) (angle : List Lexeme) (r : Result Ratio AngleRefusal) (answer : IsAnswer (symbols angle) r) (t : Taken) (y : Yields (Some called) (angle ∷ []) t) where
+module _ (called : Builtin) (angle : List Lexeme) (r : Result Ratio AngleRefusal) (answer : IsAnswer (symbols angle) r) (t : Taken) (y : Yields (Some called) (angle ∷ []) t) where
   pub refused_yield : (e : AngleRefusal) → r ≡ Err e → Err (AngleRefused e) ≡ bodied t
   refused_yield e q =
       let u : FirstRefused (angle ∷ []) e = record { good = []; angle = angle; more = []; values = []; split = refl; valued = tt; refused = subst (IsAnswer (symbols angle)) q answer } in
@@ -246,6 +246,6 @@ module _ (called : Named) (angle : List Lexeme) (r : Result Ratio AngleRefusal) 
       (f ∷ [], (subst (IsAnswer (symbols angle)) q answer, tt), λ other items e g. n items (subst (λ c. Gives c (f ∷ []) items) (sym (same_Some called other e)) g))))
 
 -- and a gate without angles
-pub gate_yield : (called : Named) (kind : Kind) (angles : List (List Lexeme)) (t : Taken) → called.base ≡ gate kind → Yields (Some called) angles t → length angles ≡ angle_count called → Ok (one called.controls kind ∷ []) ≡ bodied t
+pub gate_yield : (called : Builtin) (kind : Kind) (angles : List (List Lexeme)) (t : Taken) → called.base ≡ gate kind → Yields (Some called) angles t → length angles ≡ angle_count called → Ok (one called.controls kind ∷ []) ≡ bodied t
 gate_yield called kind [] t e y l = sym (ap bodied (yields_one (Some called) [] t (Ok (Some (one called.controls kind ∷ []))) y (called, [], refl, tt, plain kind e refl refl)))
 gate_yield called kind (a ∷ angles) t e y l = absurd (let q : suc (length angles) ≡ 0 = l ∙ ap base_angles e in omega arith)

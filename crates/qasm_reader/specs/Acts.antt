@@ -1,13 +1,13 @@
 -- What statements do, one after the other: registers, qubits, gates, measured qubits.
-use Rattle.std.specs.Prelude.{ℕ, zero, suc, ◌+◌, Bool, true, false, nat_eq, List, [], ◌∷◌, ◌++◌, map, flat_map, filter_map, get_or, Option, Some, None, option_map, option_and_then}
+use Rattle.std.specs.Prelude.{ℕ, ◌+◌, Bool, true, false, nat_eq, List, [], ◌∷◌, ◌++◌, map, flat_map, filter_map, get_or, Option, Some, None, option_map, option_and_then}
 use Rattle.std.specs.List.{list_any}
 use Rattle.std.specs.Str.{bytes_eq}
 use Rattle.std.specs.Map.{lookup}
-use Rattle.gate_set.specs.declared.kind.Kind.{Kind}
 use Rattle.gate_set.specs.declared.gate.Gate.{Gate}
 use Rattle.gate_set.specs.Circuits.{Circuit}
 use Rattle.qasm_lex.specs.Symbols.{decimal}
 use Rattle.qasm_forms.specs.Statements.{Argument}
+use Rattle.qasm_gates.specs.Gates.{Item, up_to, placed}
 
 -- a declared register: whether it holds qubits, the number of its first qubit, and how many places it has
 pub record Register : Type 0 where
@@ -19,12 +19,6 @@ pub record Register : Type 0 where
 pub record Target : Type 0 where
   pub first : ℕ
   pub size : Option ℕ
-
--- a gate of what a call does: its kind, and the numbers of the arguments that are its further controls, and its qubits, counted from 0
-pub record Item : Type 0 where
-  pub kind : Kind
-  pub extra : List ℕ
-  pub on : List ℕ
 
 pub data Act : Type 0 where
   nothing : Act
@@ -95,15 +89,6 @@ qubit_at place t = qubit_from t.first t.size place
 
 abbrev pub qubits_at : List Target → ℕ → List ℕ
 qubits_at ts place = map (qubit_at place) ts
-
--- 0 up to n - 1
-abbrev pub up_to : ℕ → List ℕ
-up_to zero = []
-up_to (suc n) = up_to n ++ n ∷ []
-
--- a gate on those of the qubits that it names by their numbers
-abbrev pub placed : List ℕ → Item → Gate
-placed qubits i = record { kind = i.kind; on = map (λ n. get_or qubits n 0) i.on; extra = map (λ n. get_or qubits n 0) i.extra }
 
 -- all of them at each place in turn
 abbrev pub product : List Item → List Target → List Gate

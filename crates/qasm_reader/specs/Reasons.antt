@@ -10,8 +10,9 @@ use Rattle.qasm_lex.specs.Angles.{IsAnswer}
 use Rattle.qasm_forms.specs.Statements.{Statement, version, include, qubits, bits, barrier, measure, call, left_out, Argument}
 use Rattle.qasm_reader.specs.declared.reason.Why.{Why}
 use Rattle.qasm_reader.specs.declared.reason.Why.TheVariants.{BadByte, NoVersion, NotAStatement, OutOfProfile, UnknownName, Redeclared, UnknownRegister, IndexOutOfRange, WrongCount, SizesDiffer, RepeatedQubit, AngleRefused, OffGrid, Measured, TooManyQubits, TooManyGates}
-use Rattle.qasm_reader.specs.Acts.{Act, Item, Register, Target, register, registers, index_of, target, targets, wholes, place_count, qubits_at, measured, qubit_count, gates}
-use Rattle.qasm_reader.specs.Calls.{Named, gate_named, arity, angle_count, Gives, AreValues, listed, Does}
+use Rattle.qasm_gates.specs.Gates.{Item, Builtin, arity, angle_count, Gives}
+use Rattle.qasm_reader.specs.Acts.{Act, Register, Target, register, registers, index_of, target, targets, wholes, place_count, qubits_at, measured, qubit_count, gates}
+use Rattle.qasm_reader.specs.Calls.{gate_named, AreValues, listed, Does}
 use Rattle.qasm_reader.specs.Parts.{Part, Has}
 
 -- what is left out, or the include of another file
@@ -79,7 +80,7 @@ abbrev pub out_of_range : List (List ℕ × Register) → Statement → Bool
 out_of_range all s = bad_size s || (list_any (is_beyond all) (qubit_arguments s) || list_any (is_beyond all) (bit_arguments s))
 
 -- another number of arguments or of angles than the gate has
-abbrev pub miscounts : Option Named → ℕ → ℕ → Bool
+abbrev pub miscounts : Option Builtin → ℕ → ℕ → Bool
 miscounts None arguments angles = false
 miscounts (Some named) arguments angles = not (nat_eq arguments (arity named)) || not (nat_eq angles (angle_count named))
 
@@ -125,15 +126,15 @@ pub record FirstRefused (angles : List (List Lexeme)) (e : AngleRefusal) : Type 
   pub refused : IsAnswer (symbols angle) (Err e)
 
 -- the gate of a call does nothing for the values of its angles
-pub record IsOffGrid (named : Option Named) (angles : List (List Lexeme)) : Type 0 where
-  pub called : Named
+pub record IsOffGrid (named : Option Builtin) (angles : List (List Lexeme)) : Type 0 where
+  pub called : Builtin
   pub values : List Ratio
   pub is : named ≡ Some called
   pub valued : AreValues angles values
   pub none : (items : List Item) → Gives called values items → ⊥
 
 -- the gate that a statement calls, if it has the name of one
-abbrev pub called_in : List Act → Statement → Option Named
+abbrev pub called_in : List Act → Statement → Option Builtin
 called_in before (call name angles arguments) = gate_named before name
 called_in before _ = None
 

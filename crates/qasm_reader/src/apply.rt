@@ -1,8 +1,8 @@
 //! Gates of a call, place by place.
 ghost use Rattle.std.specs.Prelude.{◌≡◌, ◌≤◌, ◌<◌, ◌++◌, ℕ, OnOk, All, length, take, drop, map, replicate};
 ghost use Rattle.gate_set.specs.Shape.{IsPlaced};
-ghost use Rattle.qasm_reader.specs.Acts.{qubits_at, place_count, placed, product};
-ghost use Rattle.qasm_reader.specs.Calls.{one};
+ghost use Rattle.qasm_reader.specs.Acts.{qubits_at, place_count, product};
+ghost use Rattle.qasm_gates.specs.Gates.{one, placed};
 ghost use Rattle.qasm_reader.specs.Private.Seen.{seen_targets};
 
 use crate::registers::Target;
@@ -10,6 +10,7 @@ use crate::targets::{places, qubit_at};
 use arrayvec::ArrayVec;
 use bit_lists::OutOfMemory;
 use gate_set::{Gate, Kind};
+use qasm_gates::add_gates;
 use std::alloc::Global;
 
 fn narrow(qubit: u64) -> u8
@@ -33,25 +34,6 @@ fn qubits_at(targets: &[Target], place: u32) -> ArrayVec<u8, 11>
     on
 }
 
-// The gates of the call at the place: the first of its qubits are further controls.
-#[tactic(auto, using(crate::proofs::Applied::replicate_next, crate::proofs::Applied::placed_same))]
-fn apply_at(
-    alloc: Global,
-    kind: Kind,
-    times: u8,
-    extra: &[u8],
-    on: &[u8],
-    gates: &mut Vec<Gate>,
-) -> Result<(), OutOfMemory>
-    requires { IsPlaced kind extra.now on.now }
-    ensures { OnOk result (gates.new.items ≡ gates.old.items ++ map (placed (extra.now ++ on.now)) (replicate times (one (length extra.now) kind))) }
-{
-    for _step in 0..times {
-        gates.push(Gate::controlled(alloc, extra, kind, on))?;
-    }
-    Ok(())
-}
-
 /// Adds the gates of a call: those of each place of its arguments in turn. The first arguments are further controls.
 #[tactic(auto, using(crate::proofs::Applied::product_next))]
 pub fn apply(
@@ -69,7 +51,7 @@ pub fn apply(
     for place in 0..places(targets) {
         let qubits = qubits_at(targets, place);
         let (extra, on) = qubits.as_slice().split_at(controls as usize);
-        apply_at(alloc, kind, times, extra, on, gates)?;
+        add_gates(alloc, kind, times, extra, on, gates)?;
     }
     Ok(())
 }

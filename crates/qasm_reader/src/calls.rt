@@ -5,19 +5,21 @@ ghost use Rattle.std.specs.List.{list_any};
 ghost use Rattle.qasm_lex.specs.Lexemes.{Lexeme};
 ghost use Rattle.qasm_reader.specs.Acts.{targets};
 ghost use Rattle.gate_set.specs.Matrix.{arity_of, IsKind};
-ghost use Rattle.qasm_reader.specs.Calls.{turn, phase, builtin, base_arity, angle_count, listed};
+ghost use Rattle.qasm_gates.specs.Gates.{turn, phase, builtin, base_arity, angle_count};
+ghost use Rattle.qasm_reader.specs.Calls.{listed};
 ghost use Rattle.qasm_reader.specs.Reasons.{is_unknown, is_beyond};
-ghost use Rattle.qasm_reader.specs.Private.Seen.{seen_targets, seen_base, seen_named, seen_find};
+ghost use Rattle.qasm_gates.specs.Private.Seen.{seen_base, seen_builtin};
+ghost use Rattle.qasm_reader.specs.Private.Seen.{seen_targets, seen_find};
 ghost use Rattle.qasm_reader.specs.Private.Scope.{Taken, Yields, seen_found, noted, bodies, outcome_on};
 ghost use Rattle.qasm_reader.specs.Private.Drafts.{bodied};
 
-use crate::builtin::{Base, Builtin, turns};
 use crate::reason::Why;
 use crate::registers::{Miss, Registers, Target};
 use crate::targets::{places, repeats, sizes_differ, touches};
 use arrayvec::ArrayVec;
 use gate_set::Kind;
 use qasm_forms::{Angles, Arguments, Lexemes};
+use qasm_gates::{Base, Builtin, turns};
 use qasm_lex::{eighth, quarter};
 
 /// The most gates of a circuit.
@@ -127,9 +129,9 @@ fn phased(angle: &Lexemes<'_>) -> Result<(Kind, u8), Why>
 
 /// How often a gate of which kind is done at each place, by the angle of the call where the gate has one.
 pub fn body_of(gate: Builtin, angle: Option<Lexemes<'_>>) -> Result<(Kind, u8), Why>
-    ensures arity { (name : List ℕ) → builtin name ≡ Some (seen_named gate) → IfOk result (λ p. arity_of p.0 ≡ base_arity (seen_base gate.base)) }
-    ensures power { (name : List ℕ) → builtin name ≡ Some (seen_named gate) → IfOk result (λ p. IsKind p.0) }
-    ensures yields { (t : Taken) → Yields (Some (seen_named gate)) (option_to_list angle.entry) t → length (option_to_list angle.entry) ≡ angle_count (seen_named gate) → bodies gate.controls result ≡ bodied t }
+    ensures arity { (name : List ℕ) → builtin name ≡ Some (seen_builtin gate) → IfOk result (λ p. arity_of p.0 ≡ base_arity (seen_base gate.base)) }
+    ensures power { (name : List ℕ) → builtin name ≡ Some (seen_builtin gate) → IfOk result (λ p. IsKind p.0) }
+    ensures yields { (t : Taken) → Yields (Some (seen_builtin gate)) (option_to_list angle.entry) t → length (option_to_list angle.entry) ≡ angle_count (seen_builtin gate) → bodies gate.controls result ≡ bodied t }
 {
     match gate.base {
         Base::Gate(kind) => Ok((kind, 1)),

@@ -4,10 +4,12 @@ ghost use Rattle.gate_set.specs.Circuits.{IsCircuit};
 ghost use Rattle.qasm_lex.specs.Symbols.{decimal, number_below};
 ghost use Rattle.qasm_forms.specs.Shown.{shown};
 ghost use Rattle.qasm_reader.specs.Acts.{place_count, qubit_at, qubits_of};
-ghost use Rattle.qasm_reader.specs.Calls.{builtin, listed};
+ghost use Rattle.qasm_gates.specs.Gates.{builtin};
+ghost use Rattle.qasm_reader.specs.Calls.{listed};
 ghost use Rattle.qasm_reader.specs.Reasons.{is_declared, no_size, angles_of, called_in};
 ghost use Rattle.qasm_reader.specs.declared.reason.Why.TheVariants.{Redeclared};
-ghost use Rattle.qasm_reader.specs.Private.Seen.{seen_target, seen_named, seen_find, seen_both};
+ghost use Rattle.qasm_gates.specs.Private.Seen.{seen_builtin};
+ghost use Rattle.qasm_reader.specs.Private.Seen.{seen_target, seen_find, seen_both};
 ghost use Rattle.qasm_reader.specs.Private.Scope.{Taken, Yields, both_found};
 ghost use Rattle.qasm_reader.specs.Private.Drafts.{
   Draft as Shown,
@@ -26,15 +28,14 @@ ghost use Rattle.qasm_reader.specs.Private.Drafts.{
 };
 
 use crate::apply::apply;
-use crate::builtin::{Builtin, gate_named};
 use crate::calls::{body_of, first_angle, look_up, outcome_on};
-use crate::hashing::KeyedNames;
 use crate::reason::Why;
 use crate::registers::{Miss, Register, Registers, Target};
 use crate::targets::qubit_at;
 use bit_lists::OutOfMemory;
 use gate_set::{Circuit, Gate};
 use qasm_forms::{Angles, Argument, Arguments, Form};
+use qasm_gates::{Builtin, KeyedNames, builtin_named};
 use qasm_lex::number_below;
 use std::alloc::Global;
 use std::marker::Model;
@@ -248,8 +249,8 @@ impl<'a> Draft<'a> {
         arguments: Arguments<'_>,
     ) -> Result<Option<Why>, OutOfMemory>
         requires draft { IsDraft self.old }
-        requires named { (name : List ℕ) × (builtin name ≡ Some (seen_named gate)) }
-        ensures { IfOk result (λ why. (t : Taken) → Yields (Some (seen_named gate)) (listed angles.entry) t → outcome why self.new ≡ gate_on self.old (seen_named gate) (length (listed angles.entry)) t arguments.entry) }
+        requires named { (name : List ℕ) × (builtin name ≡ Some (seen_builtin gate)) }
+        ensures { IfOk result (λ why. (t : Taken) → Yields (Some (seen_builtin gate)) (listed angles.entry) t → outcome why self.new ≡ gate_on self.old (seen_builtin gate) (length (listed angles.entry)) t arguments.entry) }
     {
         let found = look_up(&self.registers, arguments);
         if found.unknown {
@@ -290,7 +291,7 @@ impl<'a> Draft<'a> {
         requires { IsDraft self.old }
         ensures { IfOk result (λ why. (t : Taken) → Yields (builtin name.now) (listed angles.entry) t → outcome why self.new ≡ call_on self.old (builtin name.now) (length (listed angles.entry)) t arguments.entry) }
     {
-        match gate_named(name) {
+        match builtin_named(name) {
             None => Ok(Some(Why::UnknownName)),
             Some(gate) => self.call_gate(alloc, gate, angles, arguments),
         }

@@ -4,10 +4,8 @@
 #![tactic(auto)]
 
 mod apply;
-mod builtin;
 mod calls;
 mod draft;
-mod hashing;
 mod laws;
 mod reader;
 mod reason;

@@ -14,11 +14,11 @@ ghost use Rattle.qasm_reader.specs.declared.reason.ReadStop.TheVariants.{Refused
 ghost use Rattle.qasm_reader.specs.Private.Drafts.{IsDraft, Follows, Concludes, Reached, ended_part, is_version, no_form};
 
 use crate::draft::Draft;
-use crate::hashing::KeyedNames;
 use crate::reason::{ReadStop, Refusal, Why};
 use bit_lists::OutOfMemory;
 use gate_set::Circuit;
 use qasm_forms::{Form, Lexemes, Stop, read_statement};
+use qasm_gates::KeyedNames;
 use qasm_lex::{is_one_of, tokens};
 use std::alloc::Global;
 

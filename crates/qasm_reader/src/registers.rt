@@ -6,11 +6,11 @@ ghost use Rattle.qasm_reader.specs.Reasons.{is_declared, reaches};
 ghost use Rattle.qasm_reader.specs.Private.Seen.{seen_register, seen_find};
 ghost use Rattle.qasm_reader.specs.Private.Scope.{found_as, find, why_missed};
 
-use crate::hashing::KeyedNames;
 use crate::reason::Why;
 use bit_lists::OutOfMemory;
 use indexmap::IndexMap;
 use qasm_forms::Argument;
+use qasm_gates::KeyedNames;
 use qasm_lex::number_below;
 use std::alloc::Global;
 use std::marker::Model;

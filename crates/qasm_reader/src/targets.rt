@@ -1,7 +1,8 @@
 //! The tests of a call on what its arguments mean.
 ghost use Rattle.std.specs.Prelude.{◌≡◌, ◌<◌, ◌≤◌, ◌+◌, ◌∷◌, [], map, false};
 ghost use Rattle.std.specs.List.{list_any};
-ghost use Rattle.qasm_reader.specs.Acts.{qubit_at, qubits_at, wholes, place_count, is_among, up_to};
+ghost use Rattle.qasm_gates.specs.Gates.{up_to};
+ghost use Rattle.qasm_reader.specs.Acts.{qubit_at, qubits_at, wholes, place_count, is_among};
 ghost use Rattle.qasm_reader.specs.Private.Seen.{seen_target, seen_targets};
 ghost use Rattle.qasm_reader.specs.Private.Scope.{other_than, differ, has_twice, repeats, flagged, touches};
 

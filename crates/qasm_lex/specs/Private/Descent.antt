@@ -1,10 +1,11 @@
 -- What the private functions of the descent return.
-use Rattle.std.specs.Prelude.{ℕ, zero, suc, ◌+◌, ◌*◌, length, List, [], ◌∷◌, Option, Some, None, option_map, option_and_then, Result, Err}
+use Rattle.std.specs.Prelude.{ℕ, zero, suc, ◌+◌, ◌*◌, length, List, [], ◌∷◌, Option, Some, None, option_map, option_and_then, Result, Ok, Err}
 use Rattle.qasm_lex.specs.declared.symbol.Symbol.{Symbol}
-use Rattle.qasm_lex.specs.declared.symbol.Symbol.TheVariants.{Whole, Real, Pi, Function, Plus, Minus, Times, Over, Caret, Open, Close}
-use Rattle.qasm_lex.specs.Expressions.{Algebra}
+use Rattle.qasm_lex.specs.declared.symbol.Symbol.TheVariants.{Whole, Real, Pi, Param, Function, Plus, Minus, Times, Over, Caret, Open, Close}
+use Rattle.qasm_lex.specs.Expressions.{Algebra, Tree, whole, real, pi, param, plus, minus, times, over, opposite, raised, called, group}
 use Rattle.qasm_lex.specs.declared.refusal.AngleRefusal.{AngleRefusal}
 use Rattle.qasm_lex.specs.declared.refusal.AngleRefusal.TheVariants.{Malformed}
+use Rattle.qasm_lex.specs.declared.value.Value.{Value}
 use Rattle.qasm_lex.specs.Fractions.{Ratio}
 use Rattle.qasm_lex.specs.Values.{Outcome, values, multiple_of}
 
@@ -50,6 +51,7 @@ step o rec (raise v) s = Some (v, s)
 step o rec atom (Whole k ∷ s) = Some (o.of_whole k, s)
 step o rec atom (Real ∷ s) = Some (o.of_real, s)
 step o rec atom (Pi ∷ s) = Some (o.of_pi, s)
+step o rec atom (Param n ∷ s) = Some (o.of_param n, s)
 step o rec atom (Open ∷ s) = next (rec expr s) (λ v r. close (o.grouped v) r)
 step o rec atom (Function ∷ Open ∷ s) = next (rec expr s) (λ v r. close (o.call v) r)
 step o rec atom s = None
@@ -71,9 +73,9 @@ bound factor = 3
 bound power = 2
 bound _ = 1
 
--- the descent, as deep as it goes
-unfoldable pub parsed : Goal Outcome → List Symbol → Found Outcome
-parsed g s = parse values (8 * length s + bound g) g s
+-- the descent, as deep as it goes, where the parameters have these values
+unfoldable pub parsed : List Value → Goal Outcome → List Symbol → Found Outcome
+parsed given g s = parse (values given) (8 * length s + bound g) g s
 
 -- the value where the rest is empty
 abbrev pub ended : List Symbol → Outcome → Option Outcome
@@ -84,7 +86,29 @@ ended (c ∷ s) v = None
 abbrev pub whole_of : Found Outcome → Option Outcome
 whole_of read = option_and_then (λ p. ended p.1 p.0) read
 
+-- the outcome of what was read
+abbrev pub outcome_from : Option Outcome → Outcome
+outcome_from None = Err Malformed
+outcome_from (Some x) = x
+
+-- that something was read
+abbrev pub shape_from : Option Outcome → Result (Unit {0}) AngleRefusal
+shape_from None = Err Malformed
+shape_from (Some x) = Ok tt
+
 -- the answer to what was read
 abbrev pub answer_from : Option Outcome → Result Ratio AngleRefusal
 answer_from None = Err Malformed
 answer_from (Some x) = multiple_of x
+
+-- the trees themselves
+abbrev pub trees : Algebra Tree
+trees = record { of_whole = whole; of_real = real; of_pi = pi; of_param = param; sum = plus; difference = minus; product = times; quotient = over; negative = opposite; power = raised; call = called; grouped = group }
+
+abbrev pub ended_tree : List Symbol → Tree → Option Tree
+ended_tree [] t = Some t
+ended_tree (c ∷ s) t = None
+
+-- the tree that symbols spell
+unfoldable pub tree_in : List Symbol → Option Tree
+tree_in s = option_and_then (λ p. ended_tree p.1 p.0) (parse trees (8 * length s + 7) expr s)

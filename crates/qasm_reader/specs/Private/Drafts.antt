@@ -11,8 +11,9 @@ use Rattle.qasm_forms.specs.Statements.{Statement, version, include, qubits, bit
 use Rattle.qasm_reader.specs.declared.registers.Miss.{Miss}
 use Rattle.qasm_reader.specs.declared.reason.Why.{Why}
 use Rattle.qasm_reader.specs.declared.reason.Why.TheVariants.{NoVersion, NotAStatement, OutOfProfile, UnknownName, Redeclared, UnknownRegister, IndexOutOfRange, WrongCount, SizesDiffer, RepeatedQubit, AngleRefused, OffGrid, Measured, TooManyQubits, TooManyGates}
-use Rattle.qasm_reader.specs.Acts.{Act, Register, Target, Item, registers, qubit_count, gates, measured, up_to, is_among, wholes, place_count, qubits_of, product, targets}
-use Rattle.qasm_reader.specs.Calls.{Named, builtin, listed}
+use Rattle.qasm_gates.specs.Gates.{Item, up_to, Builtin, builtin}
+use Rattle.qasm_reader.specs.Acts.{Act, Register, Target, registers, qubit_count, gates, measured, is_among, wholes, place_count, qubits_of, product, targets}
+use Rattle.qasm_reader.specs.Calls.{listed}
 use Rattle.qasm_reader.specs.Parts.{Part}
 use Rattle.qasm_reader.specs.Reasons.{is_declared, is_unknown, is_beyond, no_size, miscounts, Refuses}
 use Rattle.qasm_reader.specs.Reading.{Accepts, AllAccepted}
@@ -107,13 +108,13 @@ counted_on d ts (Ok items) =
 abbrev pub applied : Draft → Taken → List Target → Result Draft Why
 applied d t ts = cond (differ (wholes ts)) (Err SizesDiffer) (cond (repeats ts) (Err RepeatedQubit) (counted_on d ts (bodied t)))
 
-abbrev pub gate_on : Draft → Named → ℕ → Taken → List Argument → Result Draft Why
+abbrev pub gate_on : Draft → Builtin → ℕ → Taken → List Argument → Result Draft Why
 gate_on d called angles t all =
     cond (list_any (is_unknown d.registers true) all) (Err UnknownRegister)
     (cond (list_any (is_beyond d.registers) all) (Err IndexOutOfRange)
     (cond (miscounts (Some called) (length all) angles) (Err WrongCount) (option_map_or (applied d t) (targets d.registers all) (Err UnknownRegister))))
 
-abbrev pub call_on : Draft → Option Named → ℕ → Taken → List Argument → Result Draft Why
+abbrev pub call_on : Draft → Option Builtin → ℕ → Taken → List Argument → Result Draft Why
 call_on d named angles t all = option_map_or (λ called. gate_on d called angles t all) named (Err UnknownName)
 
 -- the draft with the statement carried out, or why it is refused; its angles come to this

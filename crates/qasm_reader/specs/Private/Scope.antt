@@ -1,7 +1,7 @@
 -- What the reader knows at a statement, and its tests there.
 use Rattle.std.specs.List.{list_any}
 use Rattle.std.specs.Result.{result_map_both}
-use Rattle.std.specs.Prelude.{◌≡◌, not, get_or, ℕ, ◌+◌, ◌*◌, Bool, true, false, ◌||◌, cond, nat_lt, nat_eq, List, [], ◌∷◌, ◌++◌, length, replicate, Option, Some, None, ok_or, Result, Ok, Err}
+use Rattle.std.specs.Prelude.{◌≡◌, not, get_or, ℕ, ◌+◌, ◌*◌, Bool, true, false, ◌||◌, cond, nat_lt, nat_eq, List, [], ◌∷◌, ◌++◌, length, Option, Some, None, ok_or, Result, Ok, Err}
 use Rattle.gate_set.specs.declared.kind.Kind.{Kind}
 use Rattle.qasm_lex.specs.declared.refusal.AngleRefusal.{AngleRefusal}
 use Rattle.qasm_lex.specs.Lexemes.{Lexeme}
@@ -12,8 +12,10 @@ use Rattle.qasm_reader.specs.declared.registers.Miss.TheVariants.{Unknown, Beyon
 use Rattle.qasm_reader.specs.declared.calls.Found.{Found as CodeFound}
 use Rattle.qasm_reader.specs.declared.reason.Why.{Why}
 use Rattle.qasm_reader.specs.declared.reason.Why.TheVariants.{UnknownRegister, IndexOutOfRange, SizesDiffer, RepeatedQubit, Measured, TooManyGates}
-use Rattle.qasm_reader.specs.Acts.{Register, Target, Item, target, wholes, place_count, qubits_at, up_to, is_among}
-use Rattle.qasm_reader.specs.Calls.{Named, Gives, AreValues, one}
+use Rattle.qasm_gates.specs.Gates.{Item, up_to, Builtin, Gives}
+use Rattle.qasm_gates.specs.Private.Seen.{items_of}
+use Rattle.qasm_reader.specs.Acts.{Register, Target, target, wholes, place_count, qubits_at, is_among}
+use Rattle.qasm_reader.specs.Calls.{AreValues}
 use Rattle.qasm_reader.specs.Reasons.{is_unknown, is_beyond, FirstRefused}
 use Rattle.qasm_reader.specs.Private.Seen.{seen_targets}
 
@@ -21,9 +23,9 @@ use Rattle.qasm_reader.specs.Private.Seen.{seen_targets}
 abbrev pub Taken : Type 0
 Taken = Result (Option (List Item)) AngleRefusal
 
-abbrev pub Yields : Option Named → List (List Lexeme) → Taken → Type 0
-Yields named angles (Ok (Some items)) = (called : Named) × (values : List Ratio) × (named ≡ Some called) × AreValues angles values × Gives called values items
-Yields named angles (Ok None) = (values : List Ratio) × AreValues angles values × ((called : Named) (items : List Item) → named ≡ Some called → Gives called values items → ⊥)
+abbrev pub Yields : Option Builtin → List (List Lexeme) → Taken → Type 0
+Yields named angles (Ok (Some items)) = (called : Builtin) × (values : List Ratio) × (named ≡ Some called) × AreValues angles values × Gives called values items
+Yields named angles (Ok None) = (values : List Ratio) × AreValues angles values × ((called : Builtin) (items : List Item) → named ≡ Some called → Gives called values items → ⊥)
 Yields named angles (Err e) = FirstRefused angles e
 
 -- the target of an argument whose register is known and whose index isn't beyond it
@@ -90,10 +92,6 @@ touches flags ts = list_any (λ place. list_any (flagged flags) (qubits_at ts pl
 -- whether two targets differ in how many places they have
 abbrev pub other_count : Target → Target → Bool
 other_count f t = not (nat_eq (place_count (f ∷ [])) (place_count (t ∷ [])))
-
--- so many gates of a kind, with n further controls
-abbrev pub items_of : ℕ → Kind × ℕ → List Item
-items_of n p = replicate p.1 (one n p.0)
 
 abbrev pub bodies : ℕ → Result (Kind × ℕ) Why → Result (List Item) Why
 bodies n body = result_map_both (items_of n) (λ why. why) body

@@ -5,11 +5,7 @@ use Rattle.std.specs.Borrow.{Bor}
 use Rattle.qasm_reader.specs.declared.registers.Register.{Register as Row}
 use Rattle.qasm_reader.specs.declared.registers.Target.{Target as Place}
 use Rattle.qasm_reader.specs.declared.registers.Miss.{Miss}
-use Rattle.qasm_reader.specs.declared.builtin.Base.{Base as CodeBase}
-use Rattle.qasm_reader.specs.declared.builtin.Base.TheVariants.{Gate, Turn, Phase}
-use Rattle.qasm_reader.specs.declared.builtin.Builtin.{Builtin}
 use Rattle.qasm_reader.specs.Acts.{Register, Target, place_in}
-use Rattle.qasm_reader.specs.Calls.{Base, Named, gate, turn, phase}
 
 abbrev pub seen_register : Row → Register
 seen_register r = record { quantum = r.quantum; first = r.first; size = r.size }
@@ -25,14 +21,6 @@ seen_find t = result_map_both seen_target (λ m. m) t
 
 abbrev pub seen_both : Result (Place × Place) Miss → Result (Target × Target) Miss
 seen_both ts = result_map_both (λ p. (seen_target p.0, seen_target p.1)) (λ m. m) ts
-
-abbrev pub seen_base : CodeBase → Base
-seen_base (Gate kind) = gate kind
-seen_base (Turn forth back) = turn forth back
-seen_base Phase = phase
-
-abbrev pub seen_named : Builtin → Named
-seen_named b = record { controls = b.controls; base = seen_base b.base }
 
 -- an entry of the map of registers
 abbrev pub entry_of : Bor (List ℕ) × Row → List ℕ × Register

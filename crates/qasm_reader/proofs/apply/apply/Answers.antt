@@ -1,6 +1,6 @@
 use Rattle.std.proofs.Common.{rules, ◌≡◌, ◌∙◌, ◌<◌, ℕ, ◌+◌, ◌++◌, sym, ap, refl, length, map, replicate, append_assoc}
-use Rattle.qasm_reader.specs.Acts.{place_count, qubits_at, placed}
-use Rattle.qasm_reader.specs.Calls.{one}
+use Rattle.qasm_reader.specs.Acts.{place_count, qubits_at}
+use Rattle.qasm_gates.specs.Gates.{one, placed}
 use Rattle.qasm_reader.specs.Private.Seen.{seen_targets}
 use Rattle.qasm_reader.proofs.Applied.{placed_few, placed_small, product_up_to, product_next}
 use Rattle.qasm_reader.proofs.apply.apply.Goals as goal
@@ -24,7 +24,7 @@ loop-place-preserved c =
     let items = λ (n : ℕ). replicate c.args.times (one n c.args.kind) in
     let body = items c.args.controls in
     let whole : extra ++ on ≡ qubits_at ts place = sym (c.split_at.ensures.by_index).0 ∙ c.as_slice.ensures.value ∙ c.qubits_at-qubits.ensures in
-    let e : c.apply_at.new.gates.items ≡ c.loop-place.gates.items ++ map (placed (extra ++ on)) (items (length extra)) = search rules in
+    let e : c.add_gates.new.gates.items ≡ c.loop-place.gates.items ++ map (placed (extra ++ on)) (items (length extra)) = search rules in
     e ∙ ap (λ n. c.loop-place.gates.items ++ map (placed (extra ++ on)) (items n)) c.split_at.ensures.front_len
     ∙ ap (λ qs. c.loop-place.gates.items ++ map (placed qs) body) whole
     ∙ ap (λ g. g ++ map (placed (qubits_at ts place)) body) c.loop-place.invariant

@@ -1,5 +1,5 @@
 use Rattle.std.proofs.Common.{◌≡◌, ◌++◌, replicate}
-use Rattle.qasm_reader.specs.Calls.{one}
+use Rattle.qasm_gates.specs.Gates.{one}
 use Rattle.qasm_reader.specs.Private.Seen.{seen_targets}
 use Rattle.qasm_reader.proofs.Applied.{product_up_to}
 use Rattle.qasm_reader.proofs.apply.apply.Given as goal

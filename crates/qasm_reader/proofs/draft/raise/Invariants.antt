@@ -1,5 +1,6 @@
 use Rattle.std.proofs.Common.{◌≡◌, map}
-use Rattle.qasm_reader.specs.Acts.{qubit_at, up_to}
+use Rattle.qasm_gates.specs.Gates.{up_to}
+use Rattle.qasm_reader.specs.Acts.{qubit_at}
 use Rattle.qasm_reader.specs.Private.Seen.{seen_target}
 use Rattle.qasm_reader.specs.Private.Drafts.{raised}
 use Rattle.qasm_reader.proofs.draft.raise.Given as goal

@@ -1,7 +1,8 @@
 use Rattle.std.proofs.Common.{◌≡◌, false}
 use Rattle.std.specs.List.{list_any}
 use Rattle.qasm_reader.specs.Private.Seen.{seen_targets}
-use Rattle.qasm_reader.specs.Acts.{qubits_at, up_to}
+use Rattle.qasm_gates.specs.Gates.{up_to}
+use Rattle.qasm_reader.specs.Acts.{qubits_at}
 use Rattle.qasm_reader.specs.Private.Scope.{has_twice}
 use Rattle.qasm_reader.proofs.targets.repeats.Given as goal
 

@@ -5,30 +5,32 @@ use Rattle.gate_set.specs.Shape.{IsPlaced}
 use Rattle.qasm_reader.specs.declared.reason.Why.{Why}
 use Rattle.qasm_reader.specs.declared.registers.Target.{Target}
 use Rattle.qasm_reader.specs.Acts.{qubits_at, place_count, product}
-use Rattle.qasm_reader.specs.Calls.{one as one_of, listed}
-use Rattle.qasm_reader.specs.Private.Seen.{seen_target, seen_named, seen_targets}
+use Rattle.qasm_gates.specs.Gates.{one as one_of}
+use Rattle.qasm_reader.specs.Calls.{listed}
+use Rattle.qasm_gates.specs.Private.Seen.{seen_builtin}
+use Rattle.qasm_reader.specs.Private.Seen.{seen_target, seen_targets}
 use Rattle.qasm_reader.specs.Private.Scope.{Taken, Yields, bodies, outcome_on}
 use Rattle.qasm_reader.specs.Private.Drafts.{Draft, with_gates, bodied, gate_on}
-use Rattle.qasm_reader.proofs.Placing.{named_few}
+use Rattle.qasm_gates.proofs.Builtins.{named_few}
 use Rattle.qasm_reader.proofs.Calling.{Met, met, Looked, looked, miscounted, finished, comes_to, placed_call, enough_targets, one_listed}
 use Rattle.qasm_reader.proofs.draft.Draft.call_gate.Goals as goal
 use Rattle.qasm_reader.proofs.draft.Draft.call_gate.Goals.{After-has_counts, After-outcome_on}
 
 pub has_counts-requires : goal.has_counts-requires
-has_counts-requires c = named_few c.requires.named.0 (seen_named c.args.gate) c.requires.named.1
+has_counts-requires c = named_few c.requires.named.0 (seen_builtin c.args.gate) c.requires.named.1
 
 -- nothing misses
-found : (c : After-has_counts) → Met c.args.self.now (seen_named c.args.gate) (length (listed c.args.angles)) c.args.arguments c.has_counts.result
+found : (c : After-has_counts) → Met c.args.self.now (seen_builtin c.args.gate) (length (listed c.args.angles)) c.args.arguments c.has_counts.result
 found c =
-    met c.args.self.now (seen_named c.args.gate) (named_few c.requires.named.0 (seen_named c.args.gate) c.requires.named.1) (length (listed c.args.angles)) c.args.arguments
+    met c.args.self.now (seen_builtin c.args.gate) (named_few c.requires.named.0 (seen_builtin c.args.gate) c.requires.named.1) (length (listed c.args.angles)) c.args.arguments
     c.self.inside.registers (ap (λ (x : Draft). x.registers) c.self.view_is) _ _ _ _ _
     c.look_up-found.ensures.unknown c.look_up-found.ensures.beyond c.look_up-found.ensures.count c.first_angle-angle.ensures.count c.has_counts.ensures c.if-found.false c.if-found-2.false
 
 -- and the counts are right
-counted : (c : After-outcome_on) → Met c.args.self.now (seen_named c.args.gate) (length (listed c.args.angles)) c.args.arguments c.has_counts.result
-    → Looked c.args.self.now (seen_named c.args.gate) (length (listed c.args.angles)) c.args.arguments (seen_targets c.look_up-found.result.targets.items)
+counted : (c : After-outcome_on) → Met c.args.self.now (seen_builtin c.args.gate) (length (listed c.args.angles)) c.args.arguments c.has_counts.result
+    → Looked c.args.self.now (seen_builtin c.args.gate) (length (listed c.args.angles)) c.args.arguments (seen_targets c.look_up-found.result.targets.items)
 counted c m =
-    looked c.args.self.now (seen_named c.args.gate) (named_few c.requires.named.0 (seen_named c.args.gate) c.requires.named.1) (length (listed c.args.angles)) c.args.arguments
+    looked c.args.self.now (seen_builtin c.args.gate) (named_few c.requires.named.0 (seen_builtin c.args.gate) c.requires.named.1) (length (listed c.args.angles)) c.args.arguments
     c.self.inside.registers (ap (λ (x : Draft). x.registers) c.self.view_is) (seen_targets c.look_up-found.result.targets.items) c.has_counts.result m c.if-not-has_counts.false
     (c.look_up-found.ensures.means c.if-found.false c.if-found-2.false)
 
@@ -36,12 +38,12 @@ counted c m =
 abbrev outcome_here : After-outcome_on → Result (Kind × ℕ) Why
 outcome_here c = outcome_on c.body_of-body.result (seen_targets c.look_up-found.result.targets.items) c.args.self.now.measured (length c.args.self.now.gates)
 
-comes : (c : After-outcome_on) (t : Taken) (r : Result (Kind × ℕ) Why) → Looked c.args.self.now (seen_named c.args.gate) (length (listed c.args.angles)) c.args.arguments (seen_targets c.look_up-found.result.targets.items)
-    → Yields (Some (seen_named c.args.gate)) (listed c.args.angles) t → outcome_here c ≡ r
-    → finished c.args.gate.controls c.args.self.now (seen_targets c.look_up-found.result.targets.items) r ≡ gate_on c.args.self.now (seen_named c.args.gate) (length (listed c.args.angles)) t c.args.arguments
+comes : (c : After-outcome_on) (t : Taken) (r : Result (Kind × ℕ) Why) → Looked c.args.self.now (seen_builtin c.args.gate) (length (listed c.args.angles)) c.args.arguments (seen_targets c.look_up-found.result.targets.items)
+    → Yields (Some (seen_builtin c.args.gate)) (listed c.args.angles) t → outcome_here c ≡ r
+    → finished c.args.gate.controls c.args.self.now (seen_targets c.look_up-found.result.targets.items) r ≡ gate_on c.args.self.now (seen_builtin c.args.gate) (length (listed c.args.angles)) t c.args.arguments
 comes c t r l y e =
     let d = c.args.self.now in
-    let called = seen_named c.args.gate in
+    let called = seen_builtin c.args.gate in
     let angles = listed c.args.angles in
     let ts = seen_targets c.look_up-found.result.targets.items in
     let one = one_listed called angles c.first_angle-angle.result.0 c.first_angle-angle.ensures.first l.counts.angles in
@@ -50,7 +52,7 @@ comes c t r l y e =
 
 pub returns-then-not-has_counts : goal.returns-then-not-has_counts
 returns-then-not-has_counts c t y =
-    miscounted c.args.self.now (seen_named c.args.gate) (length (listed c.args.angles)) c.args.arguments c.has_counts.result t (found (goal.at.returns-then-not-has_counts c).After-has_counts) c.if-not-has_counts.true
+    miscounted c.args.self.now (seen_builtin c.args.gate) (length (listed c.args.angles)) c.args.arguments c.has_counts.result t (found (goal.at.returns-then-not-has_counts c).After-has_counts) c.if-not-has_counts.true
 
 pub apply-requires-clause-few : goal.apply-requires-clause-few
 apply-requires-clause-few c =
@@ -58,13 +60,13 @@ apply-requires-clause-few c =
     let l = counted at.After-outcome_on (found at.After-has_counts) in
     let ts = c.look_up-found.result.targets.items in
     subst (λ (ts : List Target). c.args.gate.controls ≤ length ts) (sym c.as_slice-in-Ok.ensures.value)
-    (subst (λ n. c.args.gate.controls ≤ n) (length-map ts seen_target) (enough_targets c.args.self.now (seen_named c.args.gate) (length (listed c.args.angles)) c.args.arguments (seen_targets ts) l))
+    (subst (λ n. c.args.gate.controls ≤ n) (length-map ts seen_target) (enough_targets c.args.self.now (seen_builtin c.args.gate) (length (listed c.args.angles)) c.args.arguments (seen_targets ts) l))
 
 pub apply-requires-clause-placed : goal.apply-requires-clause-placed
 apply-requires-clause-placed c place h =
     let at = goal.at.apply-requires-clause-placed c in
     let d = c.args.self.now in
-    let called = seen_named c.args.gate in
+    let called = seen_builtin c.args.gate in
     let passed : outcome_here at.After-outcome_on ≡ Ok (c.in-Ok.kind, c.in-Ok.times) = search rules in
     let same : c.as_slice-in-Ok.result.now ≡ c.look_up-found.result.targets.items = c.as_slice-in-Ok.ensures.value in
     subst (λ l. IsPlaced c.in-Ok.kind (take called.controls (qubits_at (seen_targets l) place)) (drop called.controls (qubits_at (seen_targets l) place))) (sym same)

@@ -1,0 +1,13 @@
+pub mod Builtins
+pub mod WholeTurns
+pub mod Bodied
+pub mod Packing
+pub mod Grown
+pub mod Rows
+pub mod Adding
+pub mod Tallies
+pub mod Steps
+pub mod Good
+pub mod Placed
+pub mod Expanded
+pub mod Naming

@@ -1,0 +1,4 @@
+use Rattle.qasm_gates.proofs.builtin.+based.Given as goal
+
+abbrev pub decreases-based : goal.decreases-based
+decreases-based l = l.most
