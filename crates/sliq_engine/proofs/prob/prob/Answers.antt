@@ -1,6 +1,7 @@
 use Rattle.std.proofs.Common.{rules, ◌≡◌, ◌<◌, ℕ, Bool, List, Err, Ok, length, replicate, false, sym, ◌∙◌, ap, subst, arith, map}
 use Rattle.std.proofs.lemmas.Int.{ints}
 use Rattle.std.proofs.lemmas.List.{length-replicate, length-map}
+use Rattle.std.proofs.lemmas.Result.{err_from_is_err_and}
 use Rattle.gate_set.specs.Circuits.{Circuit}
 use Rattle.amp_dense.specs.Standing.{Standing, begun, vector}
 use Rattle.amp_dense.proofs.Walking.{walked}
@@ -74,8 +75,8 @@ returns-in_err-send_outcomes-clause-stop g c =
     subst (λ (x : List Bool). Simulates sliced_policy c.args.rules.now x it.gates (Ok t)) c.zeros_of-input.ensures c.in_ok-state.ensures.simulates in
     let measured : c.counted-measured.result ≡ counted it.measured = c.counted-measured.ensures ∙ ap counted c.measured.ensures.value in
     let stop : SendStop = c.in_err-send_outcomes.field-0.0 in
-    let told : c.from_residual-in_err-send_outcomes.result ≡ Err (cause_of_sending stop) = search rules in
-    rw told (prob_stops c.args.rules.now c.args.text.now it c.in_ok-circuit.ensures.reads t simulates c.qubits.result c.qubits.ensures.value
+    let from = err_from_is_err_and c.from_residual-in_err-send_outcomes.result c.from_residual-in_err-send_outcomes.ensures.1 in
+    rw (from.1, from.2) (prob_stops c.args.rules.now c.args.text.now it c.in_ok-circuit.ensures.reads t simulates c.qubits.result c.qubits.ensures.value
     c.in_ok-check_weight.ensures.light c.counted-measured.result measured stop (g.K.Sink.written c.args.out.now) (g.K.Sink.written c.send_outcomes.new.out) c.in_err-send_outcomes.ensures.err)
 
 pub returns-clause-done : goal.returns-clause-done
