@@ -255,6 +255,7 @@ call_harmless limit q done before c k h le few =
 
 call_has : (q : ℕ) (before : List Act) (c : Call) → IsCall q c → Has before (closed_part (line_statement c)) (line_statement c)
 call_has q before c h = record {
+  closed = refl;
   spelled = refl;
   statement = record { formed = (h.name, tt, record { some = omega (arith, h.some, length-args c.on); each = args_each c.on }); tried = h.kept };
   first = λ e. absurd (cc);

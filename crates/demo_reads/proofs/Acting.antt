@@ -22,7 +22,7 @@ demo_statements q n seed = version ∷ include (codes "\"qelib1.inc\"") ∷ qubi
 
 -- the statement as a part of the text
 abbrev pub closed_part : Statement → Part
-closed_part s = record { lexemes = written s; bad = None }
+closed_part s = record { lexemes = written s; closed = true; bad = None }
 
 -- what `q[I]` means, where `q` is the first register
 abbrev pub spot : ℕ → Target

@@ -1,12 +1,13 @@
 -- The statements of the text of `demo`.
 use Prim.Native.Char.{code}
-use Rattle.std.proofs.Common.{◌≡◌, ℕ, false, List, [], ◌∷◌, ◌++◌, map, codes, decimal, None, refl, sym, ◌∙◌, ap}
-use Rattle.std.specs.List.{AllByRecursion}
+use Rattle.std.proofs.Common.{◌≡◌, ℕ, true, false, ◌||◌, ◌&&◌, not, List, [], ◌∷◌, ◌++◌, map, codes, decimal, None, refl, sym, ◌∙◌, ap}
+use Rattle.std.specs.List.{AllByRecursion, list_any}
 use Rattle.std.proofs.lemmas.List.{append-nil, append_assoc}
-use Rattle.std.proofs.lemmas.Bool.{cond-false}
+use Rattle.std.proofs.lemmas.Bool.{cond-true, cond-false, or_parts}
+use Rattle.std.proofs.lemmas.List.Folds.{list_any-append}
 use Rattle.qasm_lex.specs.Lexemes.{Lexeme, word, mark}
-use Rattle.qasm_forms.specs.Statements.{is_mark, Statement, version, include, qubits, first_word, written_rest, written, ended, written_argument, written_each, listed}
-use Rattle.qasm_reader.specs.Parts.{Part, cut, parts_of}
+use Rattle.qasm_forms.specs.Statements.{is_mark, Statement, version, include, qubits, first_word, written_rest, written, ended, semicolon, written_argument, written_each, listed}
+use Rattle.qasm_reader.specs.Parts.{Part, is_end, cut, parts_of}
 use Rattle.demo_text.specs.Generator.{Call, first_calls, calls_drawn, demo_calls}
 use Rattle.demo_reads.proofs.Spelled.{Spelled, lexemes, lexeme_at}
 use Rattle.demo_reads.proofs.Pieces.{place_pieces, more_pieces, places_pieces, line_end, line_pieces, lines_pieces, head_pieces, demo_pieces}
@@ -51,9 +52,9 @@ line_read c = ap (λ l. word c.name ∷ l) (lexemes_append (places_pieces c.on) 
 abbrev body : Statement → List Lexeme
 body s = word (first_word s) ∷ written_rest s
 
--- they have no `;`
+-- they have neither `;` nor braces
 abbrev NoStop : List Lexeme → Type 0
-NoStop ls = AllByRecursion (λ l. is_mark (code ";") l ≡ false) ls
+NoStop ls = AllByRecursion (λ l. is_mark (code "}") l || (is_mark (code ";") l || is_mark (code "{") l) ≡ false) ls
 
 no_append : (ls ms : List Lexeme) → NoStop ls → NoStop ms → NoStop (ls ++ ms)
 no_append [] ms a b = b
@@ -69,15 +70,19 @@ no_places [] = tt
 no_places (i ∷ is) = rw (listed_more i is) (no_append (place_lex i) (more_lex is) (refl, (refl, (refl, (refl, tt)))) (no_more is))
 
 abbrev part : List Lexeme → Part
-part ls = record { lexemes = ls; bad = None }
+part ls = record { lexemes = ls; closed = true; bad = None }
 
-cut_here : (before ls rest : List Lexeme) → NoStop ls → cut before (ls ++ (mark (code ";") ∷ rest)) None ≡ part (before ++ ended ls) ∷ parts_of rest None
+cut_here : (before ls rest : List Lexeme) → list_any (is_mark 123) before ≡ false → NoStop ls → cut before (ls ++ (mark (code ";") ∷ rest)) None ≡ part (before ++ ended ls semicolon) ∷ parts_of rest None
 unfolding cut
-cut_here before [] rest h = refl
-cut_here before (l ∷ ls) rest h =
-    cond-false (is_mark (code ";") l) (part (before ++ l ∷ []) ∷ parts_of (ls ++ (mark (code ";") ∷ rest)) None) (cut (before ++ l ∷ []) (ls ++ (mark (code ";") ∷ rest)) None) h.0
-    ∙ cut_here (before ++ l ∷ []) ls rest h.1
-    ∙ ap (λ x. part x ∷ parts_of rest None) (append_assoc before (l ∷ []) (ended ls))
+cut_here before [] rest b h = cond-true (not (list_any (is_mark 123) before)) (part (before ++ mark 59 ∷ []) ∷ parts_of rest None) (cut (before ++ mark 59 ∷ []) rest None) (ap not b)
+cut_here before (l ∷ ls) rest b h =
+    let p = or_parts (is_mark 125 l) (is_mark 59 l || is_mark 123 l) h.0 in
+    let q = or_parts (is_mark 59 l) (is_mark 123 l) p.1 in
+    let goes_on : is_end before l ≡ false = ap (λ x. x || (is_mark 59 l && not (list_any (is_mark 123) before))) p.0 ∙ ap (λ x. x && not (list_any (is_mark 123) before)) q.0 in
+    let none : list_any (is_mark 123) (before ++ l ∷ []) ≡ false = list_any-append (is_mark 123) before (l ∷ []) ∙ ap (λ x. x || (is_mark 123 l || false)) b ∙ ap (λ x. x || false) q.1 in
+    cond-false (is_end before l) (part (before ++ l ∷ []) ∷ parts_of (ls ++ (mark (code ";") ∷ rest)) None) (cut (before ++ l ∷ []) (ls ++ (mark (code ";") ∷ rest)) None) goes_on
+    ∙ cut_here (before ++ l ∷ []) ls rest none h.1
+    ∙ ap (λ x. part x ∷ parts_of rest None) (append_assoc before (l ∷ []) (ended ls semicolon))
 
 lines_parts : (cs : List Call) → parts_of (lexemes (lines_pieces cs)) None ≡ map (λ c. closed_part (line_statement c)) cs
 unfolding lines_pieces lexemes cut
@@ -85,7 +90,7 @@ lines_parts [] = refl
 lines_parts (c ∷ cs) =
     let s = body (line_statement c) in
     ap (λ l. parts_of l None) (lexemes_append (line_pieces c) (lines_pieces cs) ∙ ap (λ l. l ++ lexemes (lines_pieces cs)) (line_read c) ∙ append_assoc s (mark (code ";") ∷ []) (lexemes (lines_pieces cs)))
-    ∙ cut_here [] s (lexemes (lines_pieces cs)) (refl, no_places c.on)
+    ∙ cut_here [] s (lexemes (lines_pieces cs)) refl (refl, no_places c.on)
     ∙ ap (λ ps. closed_part (line_statement c) ∷ ps) (lines_parts cs)
 
 lines_join : (cs ds : List Call) → lines_pieces (cs ++ ds) ≡ lines_pieces cs ++ lines_pieces ds
@@ -112,5 +117,5 @@ demo_parts q n seed =
     let r = body (qubits (codes "q") (decimal q)) in
     ap (λ l. parts_of (lexemes (head_pieces q ++ l)) None) (sym (lines_join (first_calls q) (calls_drawn q n seed)))
     ∙ ap (λ l. parts_of l None) (lexemes_append (head_pieces q) rest ∙ ap (λ l. l ++ more) (head_read q))
-    ∙ cut_here [] v (i ++ (mark (code ";") ∷ (r ++ (mark (code ";") ∷ more)))) (refl, (refl, tt))
-    ∙ ap (λ ps. closed_part version ∷ ps) (cut_here [] i (r ++ (mark (code ";") ∷ more)) (refl, (refl, tt)) ∙ ap (λ ps. part (ended i) ∷ ps) (cut_here [] r more (refl, (refl, (refl, (refl, (refl, tt))))) ∙ ap (λ ps. part (ended r) ∷ ps) (lines_parts (demo_calls q n seed) ∙ map_map (demo_calls q n seed))))
+    ∙ cut_here [] v (i ++ (mark (code ";") ∷ (r ++ (mark (code ";") ∷ more)))) refl (refl, (refl, tt))
+    ∙ ap (λ ps. closed_part version ∷ ps) (cut_here [] i (r ++ (mark (code ";") ∷ more)) refl (refl, (refl, tt)) ∙ ap (λ ps. part (ended i semicolon) ∷ ps) (cut_here [] r more refl (refl, (refl, (refl, (refl, (refl, tt))))) ∙ ap (λ ps. part (ended r semicolon) ∷ ps) (lines_parts (demo_calls q n seed) ∙ map_map (demo_calls q n seed))))

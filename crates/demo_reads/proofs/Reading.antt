@@ -258,7 +258,7 @@ accept : (limit : ℕ) (before : List Act) (s : Statement) (act : Act) → Harml
 accept limit before s act h has does = record { free = free_of limit before s h has; statement = s; has = has; does = does }
 
 version_has : Has [] (closed_part version) version
-version_has = record { spelled = refl; statement = record { formed = tt; tried = refl }; first = λ e. refl }
+version_has = record { closed = refl; spelled = refl; statement = record { formed = tt; tried = refl }; first = λ e. refl }
 
 accept_version : Accepts 64 [] (closed_part version) nothing
 accept_version = accept 64 [] version nothing (record {
@@ -297,7 +297,7 @@ accept_include = accept 64 (nothing ∷ []) (include file) nothing (record {
   gone = λ d. d;
   qubits = λ act does. rw does (omega arith);
   gates = λ act does. rw does (omega arith);
-}) (record { spelled = refl; statement = record { formed = tt; tried = refl }; first = λ e. absurd (cc) }) refl
+}) (record { closed = refl; spelled = refl; statement = record { formed = tt; tried = refl }; first = λ e. absurd (cc) }) refl
 
 size_ok : (q : ℕ) → 1 ≤ q → q ≤ 64 → (no_size q || (false || false)) ≡ false
 size_ok q some le =
@@ -324,7 +324,7 @@ accept_register q some le =
       gone = λ d. d;
       qubits = λ act does. rw does (omega (arith, back, le));
       gates = λ act does. rw does (omega arith);
-    }) (record { spelled = refl; statement = record { formed = refl; tried = refl }; first = λ e. absurd (cc) }) (ap (declares true (codes "q")) (sym back))
+    }) (record { closed = refl; spelled = refl; statement = record { formed = refl; tried = refl }; first = λ e. absurd (cc) }) (ap (declares true (codes "q")) (sym back))
 
 -- what is known before the first call
 known_start : (q : ℕ) → Known q [] (head_acts q)

@@ -2,6 +2,9 @@ pub mod Tokens
 pub mod Listed
 pub mod Nesting
 pub mod Found
+pub mod AnglesRead
 pub mod Forms
 pub mod Written
+pub mod Definitions
+pub mod WrittenStatements
 pub mod Exact

@@ -7,10 +7,11 @@ use Rattle.qasm_lex.specs.declared.token.TokenKind.TheVariants.{Arrow, Mark}
 use Rattle.std.proofs.lemmas.Bool.Decides.{nat_tests}
 use Rattle.qasm_lex.specs.Lexemes.{Lexeme, lexeme_of, lexemes_of, of_kind}
 use Rattle.qasm_forms.specs.declared.lexemes.Stop.{Stop}
-use Rattle.qasm_forms.specs.declared.lexemes.Stop.TheVariants.{Semicolon, Comma, To}
-use Rattle.qasm_forms.specs.Statements.{is_mark}
-use Rattle.qasm_forms.specs.Private.Fronts.{ends_angle, deeper, plus, angle_place, angle_at, led_by}
-use Rattle.qasm_forms.specs.Cutting.{is_stop, before_stop, has_stop, after_stop}
+use Rattle.qasm_forms.specs.declared.lexemes.Stop.TheVariants.{Semicolon, Comma, To, Open, Close}
+use Rattle.std.specs.Option.{option_map_or}
+use Rattle.qasm_forms.specs.Statements.{is_mark, End}
+use Rattle.qasm_forms.specs.Private.Fronts.{ends_angle, deeper, plus, angle_place, angle_at, led_by, end_place}
+use Rattle.qasm_forms.specs.Cutting.{is_stop, before_stop, has_stop, after_stop, end_by, opens, led_end, end_at}
 
 -- how many tokens stand before the first separator
 abbrev pub stop_place : Stop → List Token → ℕ
@@ -24,6 +25,8 @@ mark_by_kind b _ bytes = refl
 stop_by_kind : (stop : Stop) (kind : TokenKind) (bytes : List ℕ) → is_stop stop (of_kind kind []) ≡ is_stop stop (of_kind kind bytes)
 stop_by_kind Semicolon kind bytes = mark_by_kind 59 kind bytes
 stop_by_kind Comma kind bytes = mark_by_kind 44 kind bytes
+stop_by_kind Open kind bytes = mark_by_kind 123 kind bytes
+stop_by_kind Close kind bytes = mark_by_kind 41 kind bytes
 stop_by_kind To Arrow bytes = refl
 stop_by_kind To _ bytes = refl
 
@@ -96,6 +99,44 @@ angle_in_tokens depth text (t ∷ tokens) =
         ∙ ap (led_by (lexeme_of text t)) more ∙ sym (parts_later text t tokens (angle_place (deeper depth (of_kind t.kind [])) tokens))
         ∙ sym (ap (λ x. angle_parts text (t ∷ tokens) (cond x (Some (0, is_mark 41 (of_kind t.kind []))) (plus 1 (angle_place (deeper depth (of_kind t.kind [])) tokens)))) e)
 
-pub plus_more : (n : ℕ) (x : Option (ℕ × Bool)) → plus n (plus 1 x) ≡ plus (n + 1) x
+end_by_kind : (opened : Bool) (kind : TokenKind) (bytes : List ℕ) → end_by opened (of_kind kind []) ≡ end_by opened (of_kind kind bytes)
+end_by_kind opened (Mark m) bytes = refl
+end_by_kind opened _ bytes = refl
+
+opens_by_kind : (opened : Bool) (kind : TokenKind) (bytes : List ℕ) → opens opened (of_kind kind []) ≡ opens opened (of_kind kind bytes)
+opens_by_kind opened (Mark m) bytes = refl
+opens_by_kind opened _ bytes = refl
+
+-- what stands before the end of a statement and after it, by its place
+abbrev pub end_parts : List ℕ → List Token → Option (ℕ × End) → Option (List Lexeme × End × List Lexeme)
+end_parts text tokens None = None
+end_parts text tokens (Some p) = Some (lexemes_of text (take p.0 tokens), p.1, lexemes_of text (drop (suc p.0) tokens))
+
+end_later : (text : List ℕ) (t : Token) (tokens : List Token) (x : Option (ℕ × End)) → end_parts text (t ∷ tokens) (plus 1 x) ≡ led_end (lexeme_of text t) (end_parts text tokens x)
+end_later text t tokens None = refl
+end_later text t tokens (Some p) =
+    let e : 1 + p.0 ≡ suc p.0 = omega arith in
+    ap (λ n. Some (lexemes_of text (take n (t ∷ tokens)), p.1, lexemes_of text (drop (suc n) (t ∷ tokens)))) e
+
+end_step : (opened : Bool) (text : List ℕ) (t : Token) (tokens : List Token) (x : Option End) → end_by opened (of_kind t.kind []) ≡ x
+    → end_at (opens opened (lexeme_of text t)) (lexemes_of text tokens) ≡ end_parts text tokens (end_place (opens opened (of_kind t.kind [])) tokens)
+    → end_at opened (lexemes_of text (t ∷ tokens)) ≡ end_parts text (t ∷ tokens) (end_place opened (t ∷ tokens))
+end_step opened text t tokens x e more =
+    ap (λ y. option_map_or (λ end. Some ([], end, lexemes_of text tokens)) y (led_end (lexeme_of text t) (end_at (opens opened (lexeme_of text t)) (lexemes_of text tokens)))) (sym (end_by_kind opened t.kind _) ∙ e)
+    ∙ by x ∙ sym (ap (λ y. end_parts text (t ∷ tokens) (option_map_or (λ end. Some (0, end)) y (plus 1 (end_place (opens opened (of_kind t.kind [])) tokens)))) e)
+  where
+    by : (x : Option End) → option_map_or (λ end. Some ([], end, lexemes_of text tokens)) x (led_end (lexeme_of text t) (end_at (opens opened (lexeme_of text t)) (lexemes_of text tokens)))
+        ≡ end_parts text (t ∷ tokens) (option_map_or (λ end. Some (0, end)) x (plus 1 (end_place (opens opened (of_kind t.kind [])) tokens)))
+    by (Some end) = refl
+    by None = ap (led_end (lexeme_of text t)) more ∙ sym (end_later text t tokens (end_place (opens opened (of_kind t.kind [])) tokens))
+
+-- the end of a statement among lexemes is that among tokens
+pub end_in_tokens : (opened : Bool) (text : List ℕ) (tokens : List Token) → end_at opened (lexemes_of text tokens) ≡ end_parts text tokens (end_place opened tokens)
+end_in_tokens opened text [] = refl
+end_in_tokens opened text (t ∷ tokens) =
+    end_step opened text t tokens (end_by opened (of_kind t.kind [])) refl
+    (ap (λ d. end_at d (lexemes_of text tokens)) (sym (opens_by_kind opened t.kind _)) ∙ end_in_tokens (opens opened (of_kind t.kind [])) text tokens)
+
+pub plus_more : {A : Type 0} (n : ℕ) (x : Option (ℕ × A)) → plus n (plus 1 x) ≡ plus (n + 1) x
 plus_more n None = refl
 plus_more n (Some p) = let e : n + (1 + p.0) ≡ (n + 1) + p.0 = omega arith in ap (λ m. Some (m, p.1)) e

@@ -1,5 +1,5 @@
 -- What is written as a formed statement is read as it.
-use Rattle.std.proofs.Common.{◌≡◌, ◌∙◌, sym, ap, refl, ◌<◌, ℕ, true, false, cond, ◌||◌, List, [], ◌∷◌, ◌++◌, length, arith, Option, Some, None, append_assoc, codes}
+use Rattle.std.proofs.Common.{◌≡◌, ◌∙◌, sym, ap, refl, ◌<◌, ℕ, true, false, cond, ◌||◌, List, [], ◌∷◌, ◌++◌, length, arith, Option, Some, None, append_assoc}
 use Rattle.std.specs.List.{AllByRecursion, list_any}
 use Rattle.std.specs.Option.{option_map_or}
 use Rattle.std.specs.Str.{bytes_eq}
@@ -7,10 +7,10 @@ use Rattle.std.proofs.lemmas.Slice.Eq.{bytes_eq-Decides}
 use Rattle.qasm_forms.specs.declared.lexemes.Stop.TheVariants.{To}
 use Rattle.qasm_lex.specs.Lexemes.{Lexeme, word, whole, arrow, mark}
 use Rattle.qasm_forms.specs.Statements.{is_mark}
-use Rattle.qasm_forms.specs.Statements.{Argument, Statement, version, include, qubits, bits, barrier, measure, call, left_out, IsArgument, AreArguments, AreAngles, IsAngle, Formed, first_word, written_rest, written_argument, written_index, written_angles, written_each, listed, is_name, is_left_out}
-use Rattle.qasm_forms.specs.Private.Fronts.{and_then, mark_at, index_at, deeper}
+use Rattle.qasm_forms.specs.Statements.{Argument, measure, call, IsArgument, AreArguments, AreAngles, IsAngle, written_argument, written_index, written_angles, written_each, listed, is_name}
+use Rattle.qasm_forms.specs.Private.Fronts.{and_then, mark_at, deeper}
 use Rattle.qasm_forms.specs.Cutting.{is_nothing, before_stop, has_stop, after_stop}
-use Rattle.qasm_forms.specs.Private.Parsing.{gather, argument_at, indexed, arguments_at, scan, lead_angle, next_angle, filled, angles_at, declaration_at, measure_at, call_from, call_at, after_word, statement_at}
+use Rattle.qasm_forms.specs.Private.Parsing.{gather, argument_at, indexed, arguments_at, scan, lead_angle, next_angle, filled, angles_at, measure_at, call_from, call_at}
 use Rattle.qasm_forms.proofs.Nesting.{IsPart, part_rest}
 use Rattle.qasm_forms.proofs.Listed.{split}
 use Rattle.std.proofs.lemmas.Bool.{or_parts, cond-false, false_from_ne_true}
@@ -98,7 +98,7 @@ begins_listed : (a : List Lexeme) (all : List (List Lexeme)) (ls : List Lexeme) 
 begins_listed a [] ls h = begins a ls h
 begins_listed a (b ∷ all) ls h = ap (mark_at 41) (append_assoc a (mark 44 ∷ listed (b ∷ all)) ls) ∙ begins a ((mark 44 ∷ listed (b ∷ all)) ++ ls) h
 
-angles_written : (all : List (List Lexeme)) (r : List Lexeme) → AllByRecursion IsAngle all → angles_at (listed all ++ (mark 41 ∷ r)) ≡ Some (all, r)
+pub angles_written : (all : List (List Lexeme)) (r : List Lexeme) → AllByRecursion IsAngle all → angles_at (listed all ++ (mark 41 ∷ r)) ≡ Some (all, r)
 angles_written [] r h = refl
 angles_written (a ∷ all) r h =
     ap (λ x. option_map_or (λ rest. Some ([], rest)) x (filled (scan 0 (listed (a ∷ all) ++ (mark 41 ∷ r))))) (begins_listed a all (mark 41 ∷ r) h.0) ∙ ap filled (scan_written a all r h)
@@ -108,7 +108,7 @@ no_angles : (all : List Argument) → AreArguments all → mark_at 40 (listed (w
 no_angles (a ∷ b ∷ all) h = refl
 no_angles _ h = refl
 
-call_written : (name : List ℕ) (angles : Option (List (List Lexeme))) (all : List Argument) → AreAngles angles → AreArguments all
+pub call_written : (name : List ℕ) (angles : Option (List (List Lexeme))) (all : List Argument) → AreAngles angles → AreArguments all
     → call_at name (written_angles angles ++ listed (written_each all)) ≡ Some (call name angles all)
 call_written name None all g h =
     ap (call_from name (listed (written_each all))) (no_angles all h) ∙ ap (λ x. and_then x (λ all. Some (call name None all))) (arguments_written all h)
@@ -127,7 +127,7 @@ cut_to : (name : List ℕ) (index : Option (List ℕ)) (r : List Lexeme) → Cut
 cut_to name None r = record { before = refl; has = refl; after = refl }
 cut_to name (Some d) r = record { before = refl; has = refl; after = refl }
 
-measure_written : (a b : Argument) → IsArgument a → IsArgument b → measure_at (written_argument a ++ (arrow ∷ written_argument b)) ≡ Some (measure a b)
+pub measure_written : (a b : Argument) → IsArgument a → IsArgument b → measure_at (written_argument a ++ (arrow ∷ written_argument b)) ≡ Some (measure a b)
 measure_written a b g h =
     let ls = written_argument a ++ (arrow ∷ written_argument b) in
     let t = cut_to a.name a.index (written_argument b) in
@@ -136,28 +136,6 @@ measure_written a b g h =
     ∙ ap (λ x. and_then x (λ b. Some (measure a b))) (ap argument_at t.after ∙ argument_written b h)
 
 -- a test on a word that is no name
-past : {A : Type 0} (name w : List ℕ) (x y : A) → is_name name ≡ true → is_name w ≡ false → cond (bytes_eq name w) x y ≡ y
+pub past : {A : Type 0} (name w : List ℕ) (x y : A) → is_name name ≡ true → is_name w ≡ false → cond (bytes_eq name w) x y ≡ y
 past name w x y e f =
     cond-false (bytes_eq name w) x y (false_from_ne_true _ (λ h. let q : name ≡ w = (bytes_eq-Decides name w).0 h in let r : true ≡ false = sym e ∙ ap is_name q ∙ f in cc))
-
-after_call : (name : List ℕ) (ls : List Lexeme) → is_name name ≡ true → after_word false name ls ≡ call_at name ls
-unfolding after_word is_name
-after_call name ls n =
-    past name (codes "OPENQASM") _ _ n refl ∙ past name (codes "include") _ _ n refl ∙ past name (codes "qreg") _ _ n refl ∙ past name (codes "creg") _ _ n refl
-    ∙ past name (codes "barrier") _ _ n refl ∙ past name (codes "measure") _ _ n refl ∙ ap (λ x. cond x (call_at name ls) None) n
-
-declaration_written : (name size : List ℕ) → is_name name ≡ true → declaration_at (word name ∷ mark 91 ∷ whole size ∷ mark 93 ∷ []) ≡ Some (name, size)
-declaration_written name size e =
-    ap (λ x. and_then {A = List ℕ × List Lexeme} (cond x (Some (name, mark 91 ∷ whole size ∷ mark 93 ∷ [])) None) (λ n. and_then (index_at n.1) (λ d. Some (n.0, d)))) e
-
--- a formed statement is read as it is written
-pub statement_written : (s : Statement) → Formed s → statement_at (is_left_out s) (word (first_word s) ∷ written_rest s) ≡ Some s
-unfolding after_word
-statement_written version f = refl
-statement_written (include text) f = refl
-statement_written (qubits name size) f = ap (λ x. and_then x (λ p. Some (qubits p.0 p.1))) (declaration_written name size f)
-statement_written (bits name size) f = ap (λ x. and_then x (λ p. Some (bits p.0 p.1))) (declaration_written name size f)
-statement_written (barrier all) f = ap (λ x. and_then x (λ all. Some (barrier all))) (arguments_written all f)
-statement_written (measure a b) f = measure_written a b f.0 f.1
-statement_written (call name angles all) f = after_call name (written_angles angles ++ listed (written_each all)) f.0 ∙ call_written name angles all f.1 f.2
-statement_written (left_out name more) f = refl

@@ -38,6 +38,16 @@ impl<'a> Arguments<'a> {
         read_argument(&mut front)
     }
 
+    /// None.
+    pub fn none(lexemes: &Lexemes<'a>) -> Arguments<'a>
+        ensures { result ≡ [] }
+    {
+        Arguments {
+            rest: lexemes.ahead(),
+            done: true,
+        }
+    }
+
     /// The same once more, so that one of them can be read.
     pub fn ahead(&self) -> Arguments<'a>
         ensures { result ≡ self.now }

@@ -1,5 +1,5 @@
 //! The tokens of a part of a text, with their bytes, read from the front.
-ghost use Rattle.std.specs.Prelude.{◌≡◌, ◌≤◌, ◌<◌, Result, ◌∷◌, [], false, All, length, drop, suc, MatchOption, IfSome};
+ghost use Rattle.std.specs.Prelude.{◌≡◌, ◌≤◌, ◌<◌, Result, ◌∷◌, [], false, All, length, drop, suc, MatchOption, IfSome, None, option_map};
 ghost use Rattle.std.specs.List.{list_any, position_or_len};
 ghost use Rattle.std.specs.Str.{bytes_eq};
 ghost use Rattle.qasm_lex.specs.declared.refusal.AngleRefusal.{AngleRefusal};
@@ -8,8 +8,8 @@ ghost use Rattle.qasm_lex.specs.Angles.{IsAnswer, answer_of};
 ghost use Rattle.qasm_lex.specs.Lexemes.{IsWithin, lexemes_of, lexeme_of, of_kind};
 ghost use Rattle.qasm_lex.specs.Symbols.{symbols};
 ghost use Rattle.qasm_forms.specs.Statements.{is_mark, is_name, begins_small, keywords};
-ghost use Rattle.qasm_forms.specs.Private.Fronts.{seen, then_bytes, name_at, digits_at, mark_at, marked, ends_angle, deeper, angle_place, angle_at, then_angle, plus};
-ghost use Rattle.qasm_forms.specs.Cutting.{seen_bytes, word_at, is_nothing, is_stop, before_stop, has_stop, after_stop};
+ghost use Rattle.qasm_forms.specs.Private.Fronts.{seen, then_bytes, name_at, digits_at, mark_at, marked, ends_angle, deeper, angle_place, angle_at, then_angle, plus, end_place, then_end, seen_end};
+ghost use Rattle.qasm_forms.specs.Cutting.{seen_bytes, word_at, is_nothing, is_stop, before_stop, has_stop, after_stop, end_by, end_at};
 
 use qasm_lex::{AngleRefusal, PiFraction, Token, TokenKind, angle, is_one_of};
 use std::marker::Model;
@@ -26,12 +26,21 @@ pub enum Lexeme<'a> {
     Mark(u8),
 }
 
-/// What separates parts: `;`, `,` or `->`.
+/// What separates parts: `;`, `,`, `->`, `{` or `)`.
 #[derive(Clone, Copy)]
 pub enum Stop {
     Semicolon,
     Comma,
     To,
+    Open,
+    Close,
+}
+
+/// What ends a statement: `;` or `}`.
+#[derive(Clone, Copy, Debug, PartialEq, Eq)]
+pub enum Closing {
+    Semicolon,
+    Brace,
 }
 
 /// A list of tokens of a text, read from the front.
@@ -163,6 +172,20 @@ impl<'a> Lexemes<'a> {
         Some((front, last))
     }
 
+    /// The front up to the end of a statement: a `;` with no `{` before it, or `}`. What follows it is left. None where there is no end.
+    pub fn statement(&mut self) -> Option<(Lexemes<'a>, Closing)>
+        ensures cut { then_end result self.new ≡ end_at false self.old }
+        ensures kept { result ≡ None → self.new ≡ self.old }
+    {
+        let (place, end) = end_place(self.tokens)?;
+        let front = Lexemes {
+            text: self.text,
+            tokens: &self.tokens[..place],
+        };
+        self.tokens = behind(self.tokens, place);
+        Some((front, end))
+    }
+
     /// The front up to a separator, and whether there is one. What follows it is left.
     pub fn cut(&mut self, stop: Stop) -> (Lexemes<'a>, bool)
         ensures front { result.0 ≡ before_stop stop self.old }
@@ -216,11 +239,15 @@ fn ends(kind: TokenKind, stop: Stop) -> bool
             Stop::Semicolon => mark == b';',
             Stop::Comma => mark == b',',
             Stop::To => false,
+            Stop::Open => mark == b'{',
+            Stop::Close => mark == b')',
         },
         TokenKind::Arrow => match stop {
             Stop::Semicolon => false,
             Stop::Comma => false,
             Stop::To => true,
+            Stop::Open => false,
+            Stop::Close => false,
         },
         TokenKind::Word => false,
         TokenKind::Whole => false,
@@ -289,6 +316,39 @@ fn angle_place(tokens: &[Token]) -> Option<(usize, bool)>
             return Some((place, is_mark(token.kind, b')')));
         }
         depth = deeper(token.kind, depth);
+        place += 1;
+        rest = after;
+    }
+    None
+}
+
+// The end of a statement that a token is, where a `{` stands before it or not.
+fn end_by(kind: TokenKind, opened: bool) -> Option<Closing>
+    ensures { option_map seen_end result ≡ end_by opened (of_kind kind []) }
+{
+    if is_mark(kind, b'}') {
+        Some(Closing::Brace)
+    } else if is_mark(kind, b';') && !opened {
+        Some(Closing::Semicolon)
+    } else {
+        None
+    }
+}
+
+// How many tokens stand before the end of a statement, and that end.
+#[tactic(auto, using(crate::proofs::Tokens::plus_more))]
+fn end_place(tokens: &[Token]) -> Option<(usize, Closing)>
+    ensures value { option_map (λ p. (p.0, seen_end p.1)) result ≡ end_place false tokens.now }
+    ensures within { IfSome result (λ p. p.0 < length tokens.now) }
+{
+    let mut opened = false;
+    let mut place = 0;
+    let mut rest = tokens;
+    while let Some((token, after)) = rest.split_first() {
+        if let Some(end) = end_by(token.kind, opened) {
+            return Some((place, end));
+        }
+        opened = opened || is_mark(token.kind, b'{');
         place += 1;
         rest = after;
     }

@@ -8,11 +8,15 @@ mod argument;
 mod arguments;
 mod laws;
 mod lexemes;
+mod lines;
+mod names;
 mod statement;
 
 pub use angles::Angles;
 pub use argument::Argument;
 pub use arguments::Arguments;
 pub use laws::statements_are_unambiguous;
-pub use lexemes::{Lexeme, Lexemes, Stop};
+pub use lexemes::{Closing, Lexeme, Lexemes, Stop};
+pub use lines::{Line, Lines};
+pub use names::Names;
 pub use statement::{Form, read_statement};

@@ -2,13 +2,16 @@
 ghost use Rattle.std.specs.Prelude.{◌≡◌, Bool, List, ℕ, IfSome, Some, option_map};
 ghost use Rattle.qasm_forms.specs.Statements.{Statement, IsStatement, measure, ended, written};
 ghost use Rattle.qasm_forms.specs.Cutting.{seen_bytes, begins_left};
-ghost use Rattle.qasm_forms.specs.Private.Parsing.{measure_at, is_version, included_at, call_at, after_word, statement_at};
+ghost use Rattle.qasm_forms.specs.Private.Fronts.{then, mark_at, seen_end};
+ghost use Rattle.qasm_forms.specs.Private.Parsing.{measure_at, is_version, included_at, call_at, params_from, body_at, definition_at, after_word, form_at, statement_at};
 ghost use Rattle.qasm_forms.specs.Shown.{shown, shown_if};
 
 use crate::angles::{Angles, read_angles};
 use crate::argument::{Argument, read_argument, read_declaration};
 use crate::arguments::{Arguments, read_arguments};
-use crate::lexemes::{Lexeme, Lexemes, Stop, is_name};
+use crate::lexemes::{Closing, Lexeme, Lexemes, Stop, is_name};
+use crate::lines::{Lines, read_lines};
+use crate::names::{Names, read_names, read_params};
 
 /// The form of a statement, with its parts.
 #[derive(Drop)]
@@ -24,8 +27,10 @@ pub enum Form<'a> {
     Measure(Argument<'a>, Argument<'a>),
     /// The name of a gate, its angles where it has parentheses, and its arguments.
     Call(&'a [u8], Option<Angles<'a>>, Arguments<'a>),
-    /// A first word that is left out, and what follows it.
-    LeftOut(&'a [u8], Lexemes<'a>),
+    /// The name of a gate, its parameters where it has parentheses, its formal arguments, and the lines of its body.
+    Definition(&'a [u8], Option<Names<'a>>, Names<'a>, Lines<'a>),
+    /// A first word that is left out, what follows it, and its end.
+    LeftOut(&'a [u8], Lexemes<'a>, Closing),
 }
 
 // The two sides of a measure.
@@ -80,14 +85,52 @@ fn read_call<'a>(name: &'a [u8], lexemes: &mut Lexemes<'a>) -> Option<Form<'a>>
     }
 }
 
-// What follows the first word of a statement.
-#[tactic(auto, unfolding(crate::specs::Private::Parsing::after_word))]
-fn read_after<'a>(left: bool, first: &'a [u8], lexemes: &mut Lexemes<'a>) -> Option<Form<'a>>
-    ensures { shown_if result ≡ after_word left first.now lexemes.old }
+// Parameters in parentheses, if there are some. What follows them is left.
+fn read_params_of<'a>(lexemes: &mut Lexemes<'a>) -> Option<Option<Names<'a>>>
+    ensures { then result lexemes.new ≡ params_from lexemes.old (mark_at 40 lexemes.old) }
 {
-    if left {
-        return Some(Form::LeftOut(first, lexemes.ahead()));
+    if !lexemes.takes(b'(') {
+        return Some(None);
     }
+    let (front, found) = lexemes.cut(Stop::Close);
+    if !found {
+        return None;
+    }
+    let names = read_params(&front)?;
+    Some(Some(names))
+}
+
+// A definition, after its name and its parameters.
+fn read_body<'a>(
+    name: &'a [u8],
+    params: Option<Names<'a>>,
+    lexemes: &mut Lexemes<'a>,
+) -> Option<Form<'a>>
+    ensures { shown_if result ≡ body_at name.now params.entry lexemes.old }
+{
+    let (front, found) = lexemes.cut(Stop::Open);
+    if !found {
+        return None;
+    }
+    let formals = read_names(&front)?;
+    let lines = read_lines(lexemes)?;
+    Some(Form::Definition(name, params, formals, lines))
+}
+
+// A definition, after the word `gate`.
+fn read_definition<'a>(lexemes: &mut Lexemes<'a>) -> Option<Form<'a>>
+    ensures { shown_if result ≡ definition_at lexemes.old }
+{
+    let name = lexemes.name()?;
+    let params = read_params_of(lexemes)?;
+    read_body(name, params, lexemes)
+}
+
+// What follows the first word of a statement that `;` ends.
+#[tactic(auto, unfolding(crate::specs::Private::Parsing::after_word))]
+fn read_after<'a>(first: &'a [u8], lexemes: &mut Lexemes<'a>) -> Option<Form<'a>>
+    ensures { shown_if result ≡ after_word first.now lexemes.old }
+{
     if first == b"OPENQASM".as_slice() {
         if is_version(lexemes) {
             Some(Form::Version)
@@ -116,11 +159,35 @@ fn read_after<'a>(left: bool, first: &'a [u8], lexemes: &mut Lexemes<'a>) -> Opt
     }
 }
 
-fn read_form<'a>(lexemes: &mut Lexemes<'a>, left: bool) -> Option<Form<'a>>
-    ensures { shown_if result ≡ statement_at left lexemes.old }
+// What follows the first word, by what ends the statement and by whether it is left out.
+fn read_closed<'a>(
+    left: bool,
+    end: Closing,
+    first: &'a [u8],
+    lexemes: &mut Lexemes<'a>,
+) -> Option<Form<'a>>
+    ensures { shown_if result ≡ form_at left (seen_end end) first.now lexemes.old }
+{
+    if left {
+        return Some(Form::LeftOut(first, lexemes.ahead(), end));
+    }
+    match end {
+        Closing::Semicolon => read_after(first, lexemes),
+        Closing::Brace => {
+            if first == b"gate".as_slice() {
+                read_definition(lexemes)
+            } else {
+                None
+            }
+        }
+    }
+}
+
+fn read_form<'a>(lexemes: &mut Lexemes<'a>, left: bool, end: Closing) -> Option<Form<'a>>
+    ensures { shown_if result ≡ statement_at left (seen_end end) lexemes.old }
 {
     match lexemes.next() {
-        Some(Lexeme::Word(first)) => read_after(left, first, lexemes),
+        Some(Lexeme::Word(first)) => read_closed(left, end, first, lexemes),
         Some(_) => None,
         None => None,
     }
@@ -128,9 +195,9 @@ fn read_form<'a>(lexemes: &mut Lexemes<'a>, left: bool) -> Option<Form<'a>>
 
 /// The statement whose lexemes before its end these are, where they have a form. Whether they begin with a word that is left out is
 /// for the caller to say: then that is their form. The work is linear in the lexemes, and takes no memory.
-pub fn read_statement<'a>(lexemes: &mut Lexemes<'a>, left: bool) -> Option<Form<'a>>
-    ensures found { (leaves : List ℕ → Bool) → left ≡ begins_left leaves lexemes.old → IfSome result (λ form. IsStatement leaves (shown form) × (ended lexemes.old ≡ written (shown form))) }
-    ensures only { (leaves : List ℕ → Bool) (s : Statement) → left ≡ begins_left leaves lexemes.old → IsStatement leaves s → ended lexemes.old ≡ written s → shown_if result ≡ Some s }
+pub fn read_statement<'a>(lexemes: &mut Lexemes<'a>, left: bool, end: Closing) -> Option<Form<'a>>
+    ensures found { (leaves : List ℕ → Bool) → left ≡ begins_left leaves lexemes.old → IfSome result (λ form. IsStatement leaves (shown form) × (ended lexemes.old (seen_end end) ≡ written (shown form))) }
+    ensures only { (leaves : List ℕ → Bool) (s : Statement) → left ≡ begins_left leaves lexemes.old → IsStatement leaves s → ended lexemes.old (seen_end end) ≡ written s → shown_if result ≡ Some s }
 {
-    read_form(lexemes, left)
+    read_form(lexemes, left, end)
 }

@@ -1,18 +1,16 @@
 -- Gates place by place.
-use Rattle.std.proofs.Common.{◌≡◌, ◌∙◌, sym, ap, refl, subst, ◌≤◌, ◌<◌, ℕ, zero, suc, ◌+◌, List, [], ◌∷◌, ◌++◌, length, map, replicate, get_or, take, drop, All, arith, length-append, length-drop}
+use Rattle.std.proofs.Common.{◌≡◌, ◌∙◌, sym, ap, subst, ◌≤◌, ◌<◌, ℕ, suc, ◌+◌, List, [], ◌∷◌, ◌++◌, length, map, get_or, take, drop, All, arith, length-append}
 use Rattle.std.specs.List.{flat_map}
-use Rattle.std.proofs.lemmas.List.{append-nil, length-map, map-append, take_more, take_all, get_or-drop, take-append-drop}
-use Rattle.std.proofs.Math.Seq.{drop-append_seam, take-append_seam}
+use Rattle.std.proofs.lemmas.List.{append-nil, length-map, take-append-drop}
 use Rattle.std.proofs.Math.ListN.{get_or-map}
 use Rattle.std.proofs.lemmas.List.Elements.{All-get_or}
 use Rattle.std.proofs.lemmas.Grind.{flat_map-append}
 use Rattle.gate_set.specs.declared.kind.Kind.{Kind}
 use Rattle.gate_set.specs.declared.gate.Gate.{Gate}
 use Rattle.gate_set.specs.Shape.{IsPlaced}
-use Rattle.gate_set.specs.Matrix.{arity_of}
 use Rattle.gate_set.proofs.MatrixLemmas.{arity_of-few}
 use Rattle.qasm_reader.specs.declared.registers.Target.{Target as Place}
-use Rattle.qasm_gates.specs.Gates.{Item, up_to, one, placed}
+use Rattle.qasm_gates.specs.Gates.{Item, up_to, placed}
 use Rattle.qasm_reader.specs.Acts.{Target, qubit_at, qubits_at}
 use Rattle.qasm_reader.specs.Private.Seen.{seen_target, seen_targets}
 pub use Rattle.qasm_gates.proofs.Placed.{replicate_next}

@@ -7,7 +7,7 @@ use Rattle.qasm_lex.specs.Lexemes.{Lexeme, word, mark, lexemes_of}
 use Rattle.qasm_lex.specs.Symbols.{decimal}
 use Rattle.qasm_lex.proofs.Cuts.{tokens_exist}
 use Rattle.qasm_lex.proofs.LexemeCuts.{are_lexemes}
-use Rattle.qasm_forms.specs.Statements.{Statement, version, qubits, bits, measure, call, Argument, IsStatement, is_mark, first_word, written_rest, ended, written}
+use Rattle.qasm_forms.specs.Statements.{Statement, version, qubits, bits, measure, call, Argument, End, semicolon, brace, IsStatement, is_mark, first_word, written_rest, end_of, ended, written}
 use Rattle.qasm_forms.specs.Cutting.{begins_left}
 use Rattle.qasm_forms.specs.Private.Parsing.{statement_at}
 use Rattle.qasm_forms.proofs.Forms.{statement_found}
@@ -79,30 +79,32 @@ version_or_not version = inl refl
 version_or_not _ = inr (λ e. cc)
 
 -- lexemes end a statement or don't
-ended_or_not : (ls : List Lexeme) → ((front : List Lexeme) × (ls ≡ ended front)) ⊎ ((front : List Lexeme) → ls ≡ ended front → ⊥)
+ended_or_not : (ls : List Lexeme) → ((front : List Lexeme) × (end : End) × (ls ≡ ended front end)) ⊎ ((front : List Lexeme) (end : End) → ls ≡ ended front end → ⊥)
 ended_or_not [] = inr none
   where
-    none : (front : List Lexeme) → [] ≡ ended front → ⊥
-    none [] e = cc
-    none (l ∷ front) e = cc
-ended_or_not (l ∷ []) = by (is_mark 59 l) refl
+    none : (front : List Lexeme) (end : End) → [] ≡ ended front end → ⊥
+    none [] end e = cc
+    none (l ∷ front) end e = cc
+ended_or_not (l ∷ []) = by (is_mark 59 l) refl (is_mark 125 l) refl
   where
-    none : is_mark 59 l ≡ false → (front : List Lexeme) → l ∷ [] ≡ ended front → ⊥
-    none f [] e = let q : l ≡ mark 59 = cc in let r : false ≡ true = sym f ∙ ap (is_mark 59) q in cc
-    none f (m ∷ []) e = cc
-    none f (m ∷ n ∷ front) e = cc
+    none : is_mark 59 l ≡ false → is_mark 125 l ≡ false → (front : List Lexeme) (end : End) → l ∷ [] ≡ ended front end → ⊥
+    none f g [] semicolon e = let q : l ≡ mark 59 = cc in let r : false ≡ true = sym f ∙ ap (is_mark 59) q in cc
+    none f g [] brace e = let q : l ≡ mark 125 = cc in let r : false ≡ true = sym g ∙ ap (is_mark 125) q in cc
+    none f g (m ∷ []) end e = cc
+    none f g (m ∷ n ∷ front) end e = cc
 
-    by : (b : Bool) → is_mark 59 l ≡ b → ((front : List Lexeme) × (l ∷ [] ≡ ended front)) ⊎ ((front : List Lexeme) → l ∷ [] ≡ ended front → ⊥)
-    by true e = inl ([], ap (λ x. x ∷ []) (mark_is 59 l e))
-    by false e = inr (none e)
+    by : (b : Bool) → is_mark 59 l ≡ b → (c : Bool) → is_mark 125 l ≡ c → ((front : List Lexeme) × (end : End) × (l ∷ [] ≡ ended front end)) ⊎ ((front : List Lexeme) (end : End) → l ∷ [] ≡ ended front end → ⊥)
+    by true e c f = inl ([], semicolon, ap (λ x. x ∷ []) (mark_is 59 l e))
+    by false e true f = inl ([], brace, ap (λ x. x ∷ []) (mark_is 125 l f))
+    by false e false f = inr (none e f)
 ended_or_not (l ∷ m ∷ ls) = elim (ended_or_not (m ∷ ls)) [
-  | inl f ↦ inl (l ∷ f.0, ap (λ r. l ∷ r) f.1)
+  | inl f ↦ inl (l ∷ f.0, f.1, ap (λ r. l ∷ r) f.2)
   | inr n ↦ inr (none n)
 ]
   where
-    none : ((front : List Lexeme) → m ∷ ls ≡ ended front → ⊥) → (front : List Lexeme) → l ∷ m ∷ ls ≡ ended front → ⊥
-    none n [] e = cc
-    none n (x ∷ front) e = n front cc
+    none : ((front : List Lexeme) (end : End) → m ∷ ls ≡ ended front end → ⊥) → (front : List Lexeme) (end : End) → l ∷ m ∷ ls ≡ ended front end → ⊥
+    none n [] end e = cc
+    none n (x ∷ front) end e = n front end cc
 
 module _ (limit : ℕ) where
   -- what is no statement is refused
@@ -111,37 +113,40 @@ module _ (limit : ℕ) where
   none_decided (a ∷ before) part e n = inr (NotAStatement, form_refuses limit (a ∷ before) part e (some_more a before) n)
 
   -- a statement is in its place, or is refused
-  placed_decided : (before : List Act) (part : Part) (s : Statement) → (s ≡ version) ⊎ (s ≡ version → ⊥) → part.bad ≡ None → part.lexemes ≡ written s → IsStatement (leaves before) s → Decided limit before part
-  placed_decided [] part s (inl v) e w f =
-      let h : Has [] part s = record { spelled = w; statement = f; first = λ p. refl } in
+  placed_decided : (before : List Act) (part : Part) (s : Statement) → (s ≡ version) ⊎ (s ≡ version → ⊥) → part.bad ≡ None → part.closed ≡ true → part.lexemes ≡ written s → IsStatement (leaves before) s → Decided limit before part
+  placed_decided [] part s (inl v) e c w f =
+      let h : Has [] part s = record { closed = c; spelled = w; statement = f; first = λ p. refl } in
       good_decided limit [] part s (record { has = h; no_bad = e; first = λ p. v })
-  placed_decided [] part s (inr n) e w f =
+  placed_decided [] part s (inr n) e c w f =
       inr (NoVersion, version_refuses limit [] part e refl (λ g. n (statements_same (leaves []) s version f g.statement (sym w ∙ g.spelled))))
-  placed_decided (a ∷ before) part s (inl v) e w f =
+  placed_decided (a ∷ before) part s (inl v) e c w f =
       inr (
         NotAStatement,
         form_refuses limit (a ∷ before) part e (some_more a before)
             (λ o g. some_more a before (g.first (statements_same (leaves (a ∷ before)) o s g.statement f (sym g.spelled ∙ w) ∙ v))),
       )
-  placed_decided (a ∷ before) part s (inr n) e w f =
-      let h : Has (a ∷ before) part s = record { spelled = w; statement = f; first = λ p. absurd (n p) } in
+  placed_decided (a ∷ before) part s (inr n) e c w f =
+      let h : Has (a ∷ before) part s = record { closed = c; spelled = w; statement = f; first = λ p. absurd (n p) } in
       good_decided limit (a ∷ before) part s (record { has = h; no_bad = e; first = λ p. absurd (some_more a before p) })
 
   -- each part is accepted or refused
   decided : (before : List Act) (part : Part) → Decided limit before part
-  decided before part = by part.bad refl (ended_or_not part.lexemes)
+  decided before part = by part.bad refl part.closed refl (ended_or_not part.lexemes)
     where
-      read : (front : List Lexeme) → part.bad ≡ None → part.lexemes ≡ ended front → (found : Option Statement) → statement_at (begins_left (leaves before) front) front ≡ found → Decided limit before part
-      read front e w None f =
-          none_decided before part e (λ s h. none-some s (sym f ∙ read_as (leaves before) front s h.statement (sym w ∙ h.spelled)))
-      read front e w (Some s) f =
-          let r = statement_found (begins_left (leaves before) front) front s f in
-          placed_decided before part s (version_or_not s) e (w ∙ ap ended r.spelled) (record { formed = r.formed; tried = sym (ap (begins_left (leaves before)) r.spelled) ∙ r.tried })
+      read : (front : List Lexeme) (end : End) → part.bad ≡ None → part.closed ≡ true → part.lexemes ≡ ended front end → (found : Option Statement) → statement_at (begins_left (leaves before) front) end front ≡ found → Decided limit before part
+      read front end e c w None f =
+          none_decided before part e (λ s h. none-some s (sym f ∙ read_as (leaves before) front end s h.statement (sym w ∙ h.spelled)))
+      read front end e c w (Some s) f =
+          let r = statement_found (begins_left (leaves before) front) end front s f in
+          placed_decided before part s (version_or_not s) e c (w ∙ ap (λ x. ended x end) r.spelled ∙ ap (ended (word (first_word s) ∷ written_rest s)) (sym r.ends))
+          (record { formed = r.formed; tried = sym (ap (begins_left (leaves before)) r.spelled) ∙ r.tried })
 
-      by : (bad : Option ℕ) → part.bad ≡ bad → ((front : List Lexeme) × (part.lexemes ≡ ended front)) ⊎ ((front : List Lexeme) → part.lexemes ≡ ended front → ⊥) → Decided limit before part
-      by (Some place) e x = inr (BadByte place, bad_refuses limit before part place e)
-      by None e (inr n) = none_decided before part e (λ s h. n (word (first_word s) ∷ written_rest s) h.spelled)
-      by None e (inl w) = read w.0 e w.1 (statement_at (begins_left (leaves before) w.0) w.0) refl
+      by : (bad : Option ℕ) → part.bad ≡ bad → (closed : Bool) → part.closed ≡ closed
+          → ((front : List Lexeme) × (end : End) × (part.lexemes ≡ ended front end)) ⊎ ((front : List Lexeme) (end : End) → part.lexemes ≡ ended front end → ⊥) → Decided limit before part
+      by (Some place) e closed c x = inr (BadByte place, bad_refuses limit before part place e)
+      by None e false c x = none_decided before part e (λ s h. (let q : false ≡ true = sym c ∙ h.closed in cc))
+      by None e true c (inr n) = none_decided before part e (λ s h. n (word (first_word s) ∷ written_rest s) (end_of s) h.spelled)
+      by None e true c (inl w) = read w.0 w.1 e c w.2 (statement_at (begins_left (leaves before) w.0) w.1 w.0) refl
 
   -- after those that are accepted one is refused
   record Stops (before : List Act) (parts : List Part) : Type 0 where

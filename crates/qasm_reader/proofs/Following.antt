@@ -6,7 +6,7 @@ use Rattle.std.proofs.lemmas.Bool.{true_from_ne_false, eqb-true, ltb-false, not-
 use Rattle.std.proofs.lemmas.Option.{same_Some}
 use Rattle.qasm_lex.specs.Lexemes.{Lexeme}
 use Rattle.qasm_lex.specs.Symbols.{decimal}
-use Rattle.qasm_forms.specs.Statements.{Statement, version, include, qubits, bits, barrier, measure, call, left_out, Argument, IsStatement, ended, written}
+use Rattle.qasm_forms.specs.Statements.{Statement, version, include, qubits, bits, barrier, measure, call, definition, left_out, Argument, End, IsStatement, ended, written}
 use Rattle.qasm_forms.specs.declared.statement.Form.{Form}
 use Rattle.qasm_forms.specs.Shown.{shown_if}
 use Rattle.qasm_forms.proofs.Exact.{statements_same}
@@ -141,7 +141,8 @@ module _ (limit : ℕ) (few : limit ≤ 64) (before : List Act) (d : Draft) (f :
   done (barrier all) t e y h = barrier_done all t e h
   done (measure from to) t e y h = measure_done from to t e h
   done (call name angles all) t e y h = call_done name angles all t e y (builtin name) refl h
-  done (left_out name more) t e y h = absurd cc
+  done (definition name params formals lines) t e y h = absurd cc
+  done (left_out name more end) t e y h = absurd cc
 
   tells : (s : Statement) (t : Taken) → Yields (called_in before s) (angles_of s) t → why_of (step limit d s t) ≡ first_of (tests limit before s (called_in before s) t)
   tells s t y =
@@ -161,31 +162,31 @@ version_is : (s : Statement) → is_version s ≡ true → s ≡ version
 version_is version e = refl
 version_is _ e = absurd cc
 
-module _ (limit : ℕ) (before : List Act) (ls : List Lexeme) where
+module _ (limit : ℕ) (before : List Act) (ls : List Lexeme) (end : End) where
   -- lexemes that are no statement
-  pub no_statement : (first : Bool) → first ≡ is_first before → ((s : Statement) → IsStatement (leaves before) s → ended ls ≡ written s → ⊥) → Refuses limit before (ended_part ls) (no_form first)
-  no_statement true e none = version_refuses limit before (ended_part ls) refl (no_acts before e) (λ h. none version h.statement h.spelled)
-  no_statement false e none = form_refuses limit before (ended_part ls) refl (some_acts before e) (λ s h. none s h.statement h.spelled)
+  pub no_statement : (first : Bool) → first ≡ is_first before → ((s : Statement) → IsStatement (leaves before) s → ended ls end ≡ written s → ⊥) → Refuses limit before (ended_part ls end) (no_form first)
+  no_statement true e none = version_refuses limit before (ended_part ls end) refl (no_acts before e) (λ h. none version h.statement h.spelled)
+  no_statement false e none = form_refuses limit before (ended_part ls end) refl (some_acts before e) (λ s h. none s h.statement h.spelled)
 
-  same : (s t : Statement) → IsStatement (leaves before) s → IsStatement (leaves before) t → ended ls ≡ written s → ended ls ≡ written t → s ≡ t
+  same : (s t : Statement) → IsStatement (leaves before) s → IsStatement (leaves before) t → ended ls end ≡ written s → ended ls end ≡ written t → s ≡ t
   same s t f g e h = statements_same (leaves before) s t f g (sym e ∙ h)
 
   -- a version that isn't first, or another statement that is
-  pub out_of_place : (s : Statement) (first : Bool) → first ≡ is_first before → IsStatement (leaves before) s → ended ls ≡ written s → is_version s ≢ first → Refuses limit before (ended_part ls) (no_form first)
+  pub out_of_place : (s : Statement) (first : Bool) → first ≡ is_first before → IsStatement (leaves before) s → ended ls end ≡ written s → is_version s ≢ first → Refuses limit before (ended_part ls end) (no_form first)
   out_of_place s true e f w n =
-      version_refuses limit before (ended_part ls) refl (no_acts before e) (λ h. n (ap is_version (same s version f h.statement w h.spelled)))
+      version_refuses limit before (ended_part ls end) refl (no_acts before e) (λ h. n (ap is_version (same s version f h.statement w h.spelled)))
   out_of_place s false e f w n =
-      form_refuses limit before (ended_part ls) refl (some_acts before e)
+      form_refuses limit before (ended_part ls end) refl (some_acts before e)
       (λ t h. some_acts before e (h.first (sym (same s t f h.statement w h.spelled) ∙ version_is s (true_from_ne_false (is_version s) n))))
 
-  in_place : (s : Statement) → is_first before ≡ is_version s → IsStatement (leaves before) s → ended ls ≡ written s → IsGood before (ended_part ls) s
+  in_place : (s : Statement) → is_first before ≡ is_version s → IsStatement (leaves before) s → ended ls end ≡ written s → IsGood before (ended_part ls end) s
   in_place s e f w =
-      let h : Has before (ended_part ls) s = record { spelled = w; statement = f; first = λ q. no_acts before (sym (e ∙ ap is_version q)) } in
+      let h : Has before (ended_part ls end) s = record { closed = refl; spelled = w; statement = f; first = λ q. no_acts before (sym (e ∙ ap is_version q)) } in
       record { has = h; no_bad = refl; first = λ b. version_is s (sym e ∙ ap is_first b) }
 
-  pub carried_out : (few : limit ≤ 64) (d : Draft) → Follows limit before d → (s : Statement) (t : Taken) (first : Bool) → first ≡ is_first before → is_version s ≡ first → IsStatement (leaves before) s → ended ls ≡ written s
-      → Yields (called_in before s) (angles_of s) t → (why : Option Why) (e : Draft) → outcome why e ≡ step limit d s t → Concludes limit before (ended_part ls) why e
-  carried_out few d follows s t first e v f w y why after h = concludes limit few before d follows (ended_part ls) s t (in_place s (sym e ∙ sym v) f w) y why after h
+  pub carried_out : (few : limit ≤ 64) (d : Draft) → Follows limit before d → (s : Statement) (t : Taken) (first : Bool) → first ≡ is_first before → is_version s ≡ first → IsStatement (leaves before) s → ended ls end ≡ written s
+      → Yields (called_in before s) (angles_of s) t → (why : Option Why) (e : Draft) → outcome why e ≡ step limit d s t → Concludes limit before (ended_part ls end) why e
+  carried_out few d follows s t first e v f w y why after h = concludes limit few before d follows (ended_part ls end) s t (in_place s (sym e ∙ sym v) f w) y why after h
 
 -- the statement of a form
 pub none_shown : (x : Option Form) (s : Statement) → x ≡ None → shown_if x ≡ Some s → ⊥

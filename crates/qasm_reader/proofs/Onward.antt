@@ -7,16 +7,13 @@ use Rattle.qasm_reader.specs.declared.reason.Why.TheVariants.{BadByte, NoVersion
 use Rattle.qasm_reader.specs.declared.reason.Refusal.{Refusal}
 use Rattle.qasm_reader.specs.declared.reason.ReadStop.{ReadStop}
 use Rattle.qasm_reader.specs.declared.reason.ReadStop.TheVariants.{Refused as Stopped, OutOfMemory}
-use Rattle.qasm_lex.specs.Lexemes.{Lexeme, word}
-use Rattle.qasm_forms.specs.Statements.{Statement, version, is_mark, first_word, written_rest, written}
-use Rattle.qasm_forms.specs.declared.lexemes.Stop.TheVariants.{Semicolon}
-use Rattle.qasm_forms.specs.Cutting.{is_nothing, is_stop, has_stop, before_stop, after_stop}
+use Rattle.qasm_lex.specs.Lexemes.{Lexeme}
+use Rattle.qasm_forms.specs.Cutting.{is_nothing}
 use Rattle.qasm_reader.specs.Acts.{Act}
-use Rattle.qasm_reader.specs.Parts.{Part, last_part, cut, parts_of}
+use Rattle.qasm_reader.specs.Parts.{Part, last_part, is_end, cut, parts_of}
 use Rattle.qasm_reader.specs.Reasons.{Refuses}
 use Rattle.qasm_reader.specs.Reading.{Accepts, AllAccepted, circuit, refusal, IsRefused, Reads, IfRefused}
-use Rattle.qasm_reader.proofs.PartCuts.{parts_cut, ended_stops}
-use Rattle.qasm_reader.specs.Private.Drafts.{Draft, Follows, Concludes, Reached, ended_part, draft_of, no_form}
+use Rattle.qasm_reader.specs.Private.Drafts.{Draft, Follows, Concludes, Reached, draft_of, no_form}
 use Rattle.qasm_reader.proofs.Good.{is_first, no_acts, some_acts, bad_refuses, version_refuses, form_refuses}
 use Rattle.qasm_reader.proofs.Growing.{follows_none}
 use Rattle.std.proofs.lemmas.List.{append-nil}
@@ -97,14 +94,14 @@ unfolding cut
 some_cut [] [] None e = (refl, refl, refl)
 some_cut [] [] (Some b) e = absurd cc
 some_cut (x ∷ before) [] bad e = absurd cc
-some_cut before (l ∷ ls) bad e = absurd (by (is_mark 59 l) (some_cut (before ++ l ∷ []) ls bad) e)
+some_cut before (l ∷ ls) bad e = absurd (by (is_end before l) (some_cut (before ++ l ∷ []) ls bad) e)
   where
     longer : (before : List Lexeme) → before ++ l ∷ [] ≡ [] → ⊥
     longer [] e = cc
     longer (x ∷ before) e = cc
 
     by : (x : Bool) → (cut (before ++ l ∷ []) ls bad ≡ [] → (before ++ l ∷ [] ≡ []) × (ls ≡ []) × (bad ≡ None))
-        → cond x (record { lexemes = before ++ l ∷ []; bad = None } ∷ cut [] ls bad) (cut (before ++ l ∷ []) ls bad) ≡ [] → ⊥
+        → cond x (record { lexemes = before ++ l ∷ []; closed = true; bad = None } ∷ cut [] ls bad) (cut (before ++ l ∷ []) ls bad) ≡ [] → ⊥
     by true more e = cc
     by false more e = longer before (more e).0
 
@@ -112,13 +109,13 @@ some_parts : (ls : List Lexeme) (bad : Option ℕ) → parts_of ls bad ≡ [] �
 some_parts ls bad e = let c = some_cut [] ls bad e in (c.1, c.2)
 
 -- the end of a text: a bad place
-last_bad : (ls : List Lexeme) (place : ℕ) → last_part ls (Some place) ≡ record { lexemes = ls; bad = Some place } ∷ []
+last_bad : (ls : List Lexeme) (place : ℕ) → last_part ls (Some place) ≡ record { lexemes = ls; closed = false; bad = Some place } ∷ []
 last_bad [] place = refl
 last_bad (l ∷ ls) place = refl
 
 pub end_bad : (limit : ℕ) (all : List Part) (d : Draft) (number : ℕ) (ls : List Lexeme) (place : ℕ) → Reached limit all (last_part ls (Some place)) d number → Reads limit all (refusal number (BadByte place))
 end_bad limit all d number ls place r =
-    let p : Part = record { lexemes = ls; bad = Some place } in
+    let p : Part = record { lexemes = ls; closed = false; bad = Some place } in
     refused_reads limit all number (BadByte place) (record {
       good = r.good;
       bad = p;
@@ -131,21 +128,18 @@ end_bad limit all d number ls place r =
     })
 
 -- or lexemes without a `;`
-last_open : (ls : List Lexeme) → is_nothing ls ≡ false → last_part ls None ≡ record { lexemes = ls; bad = None } ∷ []
+last_open : (ls : List Lexeme) → is_nothing ls ≡ false → last_part ls None ≡ record { lexemes = ls; closed = false; bad = None } ∷ []
 last_open [] e = absurd cc
 last_open (l ∷ ls) e = refl
 
-no_end : (ls : List Lexeme) → has_stop Semicolon ls ≡ false → (s : Statement) → ls ≡ written s → ⊥
-no_end ls o s e = let q : false ≡ true = sym o ∙ ap (has_stop Semicolon) e ∙ ended_stops (word (first_word s) ∷ written_rest s) in cc
+open_refuses : (limit : ℕ) (acts : List Act) (ls : List Lexeme) (first : Bool) → first ≡ is_first acts → Refuses limit acts (record { lexemes = ls; closed = false; bad = None }) (no_form first)
+open_refuses limit acts ls true e = version_refuses limit acts _ refl (no_acts acts e) (λ h. (let c = h.closed in cc))
+open_refuses limit acts ls false e = form_refuses limit acts _ refl (some_acts acts e) (λ s h. (let c = h.closed in cc))
 
-open_refuses : (limit : ℕ) (acts : List Act) (ls : List Lexeme) (first : Bool) → has_stop Semicolon ls ≡ false → first ≡ is_first acts → Refuses limit acts (record { lexemes = ls; bad = None }) (no_form first)
-open_refuses limit acts ls true o e = version_refuses limit acts _ refl (no_acts acts e) (λ h. no_end ls o version h.spelled)
-open_refuses limit acts ls false o e = form_refuses limit acts _ refl (some_acts acts e) (λ s h. no_end ls o s h.spelled)
-
-pub end_open : (limit : ℕ) (all : List Part) (d : Draft) (number : ℕ) (ls : List Lexeme) → has_stop Semicolon ls ≡ false → is_nothing ls ≡ false → Reached limit all (last_part ls None) d number
+pub end_open : (limit : ℕ) (all : List Part) (d : Draft) (number : ℕ) (ls : List Lexeme) → is_nothing ls ≡ false → Reached limit all (last_part ls None) d number
     → Reads limit all (refusal number (no_form (nat_eq number 1)))
-end_open limit all d number ls o n r =
-    let p : Part = record { lexemes = ls; bad = None } in
+end_open limit all d number ls n r =
+    let p : Part = record { lexemes = ls; closed = false; bad = None } in
     refused_reads limit all number (no_form (nat_eq number 1)) (record {
       good = r.good;
       bad = p;
@@ -153,7 +147,7 @@ end_open limit all d number ls o n r =
       acts = r.acts;
       split = r.split ∙ ap (λ x. r.good ++ x) (last_open ls n);
       accepted = r.accepted;
-      refuses = open_refuses limit r.acts ls (nat_eq number 1) o (number_first limit all d number (last_part ls None) r);
+      refuses = open_refuses limit r.acts ls (nat_eq number 1) (number_first limit all d number (last_part ls None) r);
       count = r.count;
     })
 
@@ -162,29 +156,6 @@ pub end_none : (limit : ℕ) (all : List Part) (d : Draft) (number : ℕ) (ls : 
     → Reads limit all (circuit (circuit_in d))
 end_none limit all d number [] n some r = reached_end limit all d number some r
 end_none limit all d number (l ∷ ls) n some r = absurd cc
-
--- the front of a text: up to its first `;`
-pub cut_closed : (ls : List Lexeme) (bad : Option ℕ) → has_stop Semicolon ls ≡ true → parts_of ls bad ≡ ended_part (before_stop Semicolon ls) ∷ parts_of (after_stop Semicolon ls) bad
-cut_closed ls bad e =
-    parts_cut ls bad ∙ ap (λ b. cond b (ended_part (before_stop Semicolon ls) ∷ parts_of (after_stop Semicolon ls) bad) (last_part ls bad)) e
-
-no_stop : (ls : List Lexeme) → has_stop Semicolon ls ≡ false → before_stop Semicolon ls ≡ ls
-no_stop [] e = refl
-no_stop (l ∷ ls) e = by (is_stop Semicolon l) (no_stop ls) e
-  where
-    by : (b : Bool) → (has_stop Semicolon ls ≡ false → before_stop Semicolon ls ≡ ls) → cond b true (has_stop Semicolon ls) ≡ false → cond b [] (l ∷ before_stop Semicolon ls) ≡ l ∷ ls
-    by true more e = absurd cc
-    by false more e = ap (λ r. l ∷ r) (more e)
-
--- its front then has no end
-pub no_stop_before : (ls : List Lexeme) → has_stop Semicolon ls ≡ false → has_stop Semicolon (before_stop Semicolon ls) ≡ false
-no_stop_before ls e = ap (has_stop Semicolon) (no_stop ls e) ∙ e
-
--- or to its end
-pub cut_open : (ls : List Lexeme) (bad : Option ℕ) → has_stop Semicolon ls ≡ false → parts_of ls bad ≡ last_part (before_stop Semicolon ls) bad
-cut_open ls bad e =
-    parts_cut ls bad ∙ ap (λ b. cond b (ended_part (before_stop Semicolon ls) ∷ parts_of (after_stop Semicolon ls) bad) (last_part ls bad)) e
-    ∙ ap (λ l. last_part l bad) (sym (no_stop ls e))
 
 -- a text with nothing in it
 pub nothing_reads : (limit : ℕ) (ls : List Lexeme) (bad : Option ℕ) → is_nothing ls ≡ true → bad ≡ None → Reads limit (parts_of ls bad) (refusal 0 NoVersion)

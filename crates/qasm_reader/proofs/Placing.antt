@@ -1,15 +1,12 @@
 -- Arguments that pass all tests are different qubits of the draft.
-use Rattle.std.proofs.Common.{◌≡◌, ◌≢◌, ◌∙◌, sym, ap, refl, subst, ◌≤◌, ◌<◌, ℕ, zero, suc, ◌+◌, ◌-◌, Bool, true, false, not, cond, nat_eq, nat_le, List, [], ◌∷◌, length, map, replicate, All, get_or, Option, Some, None, option_map, arith, length-drop}
+use Rattle.std.proofs.Common.{◌≡◌, ◌≢◌, ◌∙◌, sym, ap, refl, subst, ◌≤◌, ◌<◌, ℕ, ◌+◌, Bool, true, false, not, List, [], ◌∷◌, length, map, All, get_or, Option, Some, None, option_map, arith, length-drop}
 use Rattle.std.specs.List.{list_any, AllByRecursion, AllPairs, cons_option}
-use Rattle.std.specs.Option.{option_map_or}
 use Rattle.std.specs.Str.{bytes_eq}
-use Rattle.std.specs.Map.{lookup}
 use Rattle.std.proofs.lemmas.Bool.{leb-false, not-false, or_parts, false_from_ne_true}
 use Rattle.std.proofs.lemmas.Option.{none-some, same_Some}
 use Rattle.std.proofs.lemmas.List.{length-map, length-take, take-append-drop}
 use Rattle.std.proofs.lemmas.List.Elements.{All-nil, All-cons, All-replicate}
 use Rattle.gate_set.specs.declared.kind.Kind.{Kind}
-use Rattle.gate_set.specs.declared.kind.Kind.TheVariants.{Id, Phase}
 use Rattle.gate_set.specs.Matrix.{arity_of, IsKind}
 use Rattle.gate_set.specs.Shape.{IsOn}
 use Rattle.qasm_lex.specs.Fractions.{Ratio}

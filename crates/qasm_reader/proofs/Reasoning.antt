@@ -5,7 +5,7 @@ use Rattle.std.specs.List.{list_any}
 use Rattle.std.proofs.lemmas.List.{length-append}
 use Rattle.qasm_lex.specs.Lexemes.{Lexeme}
 use Rattle.qasm_lex.specs.Symbols.{decimal}
-use Rattle.qasm_forms.specs.Statements.{Statement, version, include, qubits, bits, barrier, measure, call, left_out, Argument}
+use Rattle.qasm_forms.specs.Statements.{Statement, version, include, qubits, bits, barrier, measure, call, definition, left_out, Argument}
 use Rattle.qasm_reader.specs.declared.reason.Why.{Why}
 use Rattle.qasm_reader.specs.declared.reason.Why.TheVariants.{OutOfProfile, UnknownName, Redeclared, UnknownRegister, IndexOutOfRange, WrongCount, SizesDiffer, RepeatedQubit, AngleRefused, OffGrid, Measured, TooManyQubits, TooManyGates}
 use Rattle.qasm_gates.specs.Gates.{Item, up_to, Builtin, builtin}
@@ -169,4 +169,5 @@ module _ (limit : ℕ) (before : List Act) (few : qubit_count before ≤ limit) 
   told (barrier all) t y = quiet_told (barrier all) t y (told_barrier all)
   told (measure from to) t y = quiet_told (measure from to) t y (told_measure from to)
   told (call name angles all) t y = told_named name angles all t (builtin name)
-  told (left_out name more) t y = refl
+  told (definition name params formals lines) t y = refl
+  told (left_out name more end) t y = refl

@@ -7,7 +7,7 @@ use Rattle.qasm_lex.specs.Lexemes.{Lexeme}
 use Rattle.qasm_lex.specs.Symbols.{decimal, symbols}
 use Rattle.qasm_lex.specs.Fractions.{Ratio}
 use Rattle.qasm_lex.specs.Angles.{IsAnswer}
-use Rattle.qasm_forms.specs.Statements.{Statement, version, include, qubits, bits, barrier, measure, call, left_out, Argument}
+use Rattle.qasm_forms.specs.Statements.{Statement, version, include, qubits, bits, barrier, measure, call, definition, left_out, Argument}
 use Rattle.qasm_reader.specs.declared.reason.Why.{Why}
 use Rattle.qasm_reader.specs.declared.reason.Why.TheVariants.{BadByte, NoVersion, NotAStatement, OutOfProfile, UnknownName, Redeclared, UnknownRegister, IndexOutOfRange, WrongCount, SizesDiffer, RepeatedQubit, AngleRefused, OffGrid, Measured, TooManyQubits, TooManyGates}
 use Rattle.qasm_gates.specs.Gates.{Item, Builtin, arity, angle_count, Gives}
@@ -15,9 +15,10 @@ use Rattle.qasm_reader.specs.Acts.{Act, Register, Target, register, registers, i
 use Rattle.qasm_reader.specs.Calls.{gate_named, AreValues, listed, Does}
 use Rattle.qasm_reader.specs.Parts.{Part, Has}
 
--- what is left out, or the include of another file
+-- what is left out, also the definition of a gate, or the include of another file
 abbrev pub out_of_profile : Statement → Bool
-out_of_profile (left_out name more) = true
+out_of_profile (left_out name more end) = true
+out_of_profile (definition name params formals lines) = true
 out_of_profile (include text) = not (bytes_eq text (codes "\"qelib1.inc\""))
 out_of_profile _ = false
 

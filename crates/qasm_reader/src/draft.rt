@@ -315,7 +315,7 @@ impl<'a> Draft<'a> {
             Form::Barrier(arguments) => Ok(self.barrier(arguments)),
             Form::Measure(from, to) => Ok(self.measure(&from, &to)),
             Form::Call(name, angles, arguments) => self.call(alloc, name, angles, arguments),
-            Form::LeftOut(_, _) => Ok(Some(Why::OutOfProfile)),
+            Form::Definition(_, _, _, _) | Form::LeftOut(_, _, _) => Ok(Some(Why::OutOfProfile)),
         }
     }
 }

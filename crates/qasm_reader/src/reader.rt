@@ -3,9 +3,9 @@ ghost use Rattle.std.specs.Prelude.{◌≡◌, ◌≢◌, ◌≤◌, ℕ, List, 
 ghost use Rattle.std.specs.List.{list_any};
 ghost use Rattle.std.specs.Str.{bytes_eq};
 ghost use Rattle.gate_set.specs.Circuits.{IsCircuit};
-ghost use Rattle.qasm_forms.specs.declared.lexemes.Stop.TheVariants.{Semicolon};
-ghost use Rattle.qasm_forms.specs.Cutting.{begins_left, has_stop};
+ghost use Rattle.qasm_forms.specs.Cutting.{begins_left};
 ghost use Rattle.qasm_forms.specs.Shown.{shown};
+ghost use Rattle.qasm_forms.specs.Private.Fronts.{seen_end};
 ghost use Rattle.qasm_reader.specs.Acts.{Act};
 ghost use Rattle.qasm_reader.specs.Profile.{leaves, words_left_out};
 ghost use Rattle.qasm_reader.specs.Parts.{Part, last_part, parts_of};
@@ -17,7 +17,7 @@ use crate::draft::Draft;
 use crate::reason::{ReadStop, Refusal, Why};
 use bit_lists::OutOfMemory;
 use gate_set::Circuit;
-use qasm_forms::{Form, Lexemes, Stop, read_statement};
+use qasm_forms::{Closing, Form, Lexemes, read_statement};
 use qasm_gates::KeyedNames;
 use qasm_lex::{is_one_of, tokens};
 use std::alloc::Global;
@@ -67,11 +67,10 @@ fn read_statements(
     let mut draft = Draft::new(alloc, names);
     let mut number = 1;
     'statements: loop {
-        let (mut part, closed) = lexemes.cut(Stop::Semicolon);
-        if !closed {
-            return read_end(&part, bad, number, draft);
-        }
-        let conclusion = follow(alloc, &mut part, number == 1, limit, &mut draft)?;
+        let Some((mut part, end)) = lexemes.statement() else {
+            return read_end(lexemes, bad, number, draft);
+        };
+        let conclusion = follow(alloc, &mut part, end, number == 1, limit, &mut draft)?;
         if let Some(why) = conclusion {
             return Err(refused(number, why));
         }
@@ -87,8 +86,7 @@ fn read_end(
     number: u32,
     draft: Draft<'_>,
 ) -> Result<Circuit, ReadStop>
-    requires draft { IsDraft draft }
-    requires open { has_stop Semicolon rest.now ≡ false }
+    requires { IsDraft draft }
     ensures circuit { IfOk result (λ c. (limit : ℕ) (all : List Part) → all ≢ [] → Reached limit all (last_part rest.now bad) draft.entry number → Reads limit all (circuit c)) }
     ensures sound { IfOk result (λ c. IsCircuit c) }
     ensures refused { IfErr result (λ stop. IfRefused stop (λ r. (limit : ℕ) (all : List Part) → Reached limit all (last_part rest.now bad) draft.entry number → Reads limit all (refusal r.statement r.why))) }
@@ -149,16 +147,17 @@ fn begins_left(part: &Lexemes<'_>) -> bool
 fn follow<'a>(
     alloc: Global,
     part: &mut Lexemes<'a>,
+    end: Closing,
     first: bool,
     limit: u8,
     draft: &mut Draft<'a>,
 ) -> Result<Option<Why>, OutOfMemory>
     requires draft { IsDraft draft.old }
     requires few { limit ≤ 64 }
-    ensures { IfOk result (λ why. (before : List Act) → Follows limit before draft.old → first ≡ nat_eq (length before) 0 → Concludes limit before (ended_part part.old) why draft.new) }
+    ensures { IfOk result (λ why. (before : List Act) → Follows limit before draft.old → first ≡ nat_eq (length before) 0 → Concludes limit before (ended_part part.old (seen_end end)) why draft.new) }
 {
     let left = begins_left(part);
-    let Some(form) = read_statement(part, left) else {
+    let Some(form) = read_statement(part, left, end) else {
         return Ok(Some(no_form(first)));
     };
     if is_version(&form) != first {

@@ -6,7 +6,11 @@ use Rattle.qasm_lex.specs.declared.token.Token.{Token}
 use Rattle.qasm_forms.specs.declared.lexemes.Lexeme.{Lexeme as Piece}
 use Rattle.qasm_forms.specs.declared.lexemes.Lexeme.TheVariants.{Word as PieceWord, Whole as PieceWhole, Real as PieceReal, Quoted as PieceQuoted, Arrow as PieceArrow, Equal as PieceEqual, Mark as PieceMark}
 use Rattle.qasm_lex.specs.Lexemes.{Lexeme, of_kind, word, whole, real, quoted, arrow, equal, mark}
-use Rattle.qasm_forms.specs.Statements.{is_mark, is_name}
+use Rattle.std.specs.Option.{option_map_or}
+use Rattle.qasm_forms.specs.declared.lexemes.Closing.{Closing}
+use Rattle.qasm_forms.specs.declared.lexemes.Closing.TheVariants.{Semicolon, Brace}
+use Rattle.qasm_forms.specs.Statements.{is_mark, is_name, End, semicolon, brace}
+use Rattle.qasm_forms.specs.Cutting.{end_by, opens}
 
 -- the code's lexeme, as the definitions have it
 abbrev pub seen : Piece → Lexeme
@@ -63,7 +67,7 @@ ends_angle depth l = nat_eq depth 0 && (is_mark (code ")") l || is_mark (code ",
 abbrev pub deeper : ℕ → Lexeme → ℕ
 deeper depth l = cond (is_mark (code "(") l) (depth + 1) (cond (is_mark (code ")") l) (depth - 1) depth)
 
-abbrev pub plus : ℕ → Option (ℕ × Bool) → Option (ℕ × Bool)
+abbrev pub plus : {A : Type 0} → ℕ → Option (ℕ × A) → Option (ℕ × A)
 plus n place = option_map (λ p. (n + p.0, p.1)) place
 
 -- how many tokens stand before the end of an angle, and whether it is the closing parenthesis
@@ -82,3 +86,15 @@ angle_at depth (l ∷ ls) = cond (ends_angle depth l) (Some ([], is_mark (code "
 
 abbrev pub then_angle : Option (List Lexeme × Bool) → List Lexeme → Option (List Lexeme × Bool × List Lexeme)
 then_angle read rest = option_map (λ p. (p.0, p.1, rest)) read
+
+-- how many tokens stand before the end of a statement, and that end
+abbrev pub end_place : Bool → List Token → Option (ℕ × End)
+end_place opened [] = None
+end_place opened (t ∷ ts) = option_map_or (λ end. Some (0, end)) (end_by opened (of_kind t.kind [])) (plus 1 (end_place (opens opened (of_kind t.kind [])) ts))
+
+abbrev pub seen_end : Closing → End
+seen_end Semicolon = semicolon
+seen_end Brace = brace
+
+abbrev pub then_end : Option (List Lexeme × Closing) → List Lexeme → Option (List Lexeme × End × List Lexeme)
+then_end read rest = option_map (λ p. (p.0, seen_end p.1, rest)) read

@@ -7,7 +7,7 @@ use Rattle.gate_set.specs.declared.gate.Gate.{Gate}
 use Rattle.gate_set.specs.Shape.{IsOn}
 use Rattle.qasm_lex.specs.Lexemes.{Lexeme}
 use Rattle.qasm_lex.specs.Symbols.{decimal}
-use Rattle.qasm_forms.specs.Statements.{Statement, version, include, qubits, bits, barrier, measure, call, left_out, Argument, ended}
+use Rattle.qasm_forms.specs.Statements.{Statement, version, include, qubits, bits, barrier, measure, call, definition, left_out, Argument, End, ended}
 use Rattle.qasm_reader.specs.declared.registers.Miss.{Miss}
 use Rattle.qasm_reader.specs.declared.reason.Why.{Why}
 use Rattle.qasm_reader.specs.declared.reason.Why.TheVariants.{NoVersion, NotAStatement, OutOfProfile, UnknownName, Redeclared, UnknownRegister, IndexOutOfRange, WrongCount, SizesDiffer, RepeatedQubit, AngleRefused, OffGrid, Measured, TooManyQubits, TooManyGates}
@@ -126,7 +126,8 @@ step limit d (bits name size) t = bits_on d name (decimal size)
 step limit d (barrier all) t = barrier_on d all
 step limit d (measure from to) t = measure_on d from to
 step limit d (call name angles all) t = call_on d (builtin name) (length (listed angles)) t all
-step limit d (left_out name more) t = Err OutOfProfile
+step limit d (definition name params formals lines) t = Err OutOfProfile
+step limit d (left_out name more end) t = Err OutOfProfile
 
 abbrev pub is_version : Statement → Bool
 is_version version = true
@@ -137,8 +138,8 @@ abbrev pub no_form : Bool → Why
 no_form first = cond first NoVersion NotAStatement
 
 -- a statement with its end, by the lexemes before that
-abbrev pub ended_part : List Lexeme → Part
-ended_part lexemes = record { lexemes = ended lexemes; bad = None }
+abbrev pub ended_part : List Lexeme → End → Part
+ended_part lexemes end = record { lexemes = ended lexemes end; closed = true; bad = None }
 
 -- the part is accepted, and the draft has what it does; or it is refused
 abbrev pub Concludes : ℕ → List Act → Part → Option Why → Draft → Type 0

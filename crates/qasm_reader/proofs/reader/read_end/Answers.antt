@@ -13,4 +13,4 @@ returns-else-is_empty-clause-refused c =
     let some : is_nothing c.args.rest.now ≡ false = search rules in
     let none : c.args.bad ≡ None = c.in_default.is in
     subst (λ x. IfRefused x (λ r. (limit : ℕ) (all : List Part) → Reached limit all (last_part c.args.rest.now c.args.bad) c.args.draft c.args.number → Reads limit all (refusal r.statement r.why))) (sym e)
-    (λ limit all r. end_open limit all c.args.draft c.args.number c.args.rest.now c.requires.open some (subst (λ b. Reached limit all (last_part c.args.rest.now b) c.args.draft c.args.number) none r))
+    (λ limit all r. end_open limit all c.args.draft c.args.number c.args.rest.now some (subst (λ b. Reached limit all (last_part c.args.rest.now b) c.args.draft c.args.number) none r))
