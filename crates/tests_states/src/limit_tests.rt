@@ -382,12 +382,15 @@ fn each_limit(alloc: Global, circuit: Drawn, needs: &[u32; 32]) -> Option<u32>
     Some(count)
 }
 
-/// The same, and with as many nodes as are always enough.
+/// The same, and with as many nodes as are always enough, which its size is within.
 fn each_limit_and_enough(alloc: Global, circuit: Drawn) -> Option<u32>
     requires { circuit.qubits ≤ 12 }
 {
     let needs = needs_of(alloc, circuit)?;
     let enough = (64 * (16 + 2) + 130) << circuit.qubits;
+    if size_of(&needs) > enough {
+        return None;
+    }
     at_limit(alloc, circuit, &needs, enough, 0)?;
     each_limit(alloc, circuit, &needs)
 }

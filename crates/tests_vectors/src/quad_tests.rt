@@ -1,17 +1,22 @@
 //! Turns, steps on two variables, full stores, and an identity.
-ghost use Rattle.std.specs.Prelude.{◌≡◌, ◌≤◌, IfOk, length};
+ghost use Rattle.std.specs.Prelude.{◌≡◌, ◌≤◌, length};
+ghost use Rattle.std.specs.List.{range_with_len};
+ghost use Rattle.diagram_model.specs.Stores.{held};
 ghost use Rattle.slice_quad.specs.Vectors.{Stands};
 
-use crate::tools::{Matrix, Move, apply, apply_all, begin, begun, entry_at, quad};
+use crate::tools::{
+    Course, Matrix, Move, apply, apply_all, begin, entry_at, is_applied, quad, run, variables,
+};
 use bit_lists::Bits;
 use diagram_ops::Diagrams;
-use node_store::{FALSE, StoreStop};
+use node_store::{FALSE, Node, StoreStop};
 use ring_omega::Quad;
 use slice_quad::{
     Coord, QuadStop, SliceQuad, Turn, bits, entry, exponent, identity, kept, next_nonzero, roots,
     rotate, width,
 };
 use std::alloc::Global;
+use std::process::Abort;
 
 /// The coordinate of each power of ω times a number.
 fn turns_of(z: Coord) -> [Turn; 8] {
@@ -35,7 +40,7 @@ fn turns_by_all_powers(rt: HostRuntime) {
         for power in 0..8usize {
             let from = coords[(place + power) % 4];
             let negated = (place + power) / 4 % 2 == 1;
-            assert_eq!(rt; turns[power], Turn { from, negated });
+            assert!(rt; turns[power] == Turn { from, negated });
         }
     }
 }
@@ -67,101 +72,148 @@ fn root_count(alloc: Global, q: &SliceQuad) -> Option<usize> {
     Some(nodes.len())
 }
 
+static MOVES: [Move; 4] = [
+    Move::On(Matrix::H, 0),
+    Move::Where(0, Matrix::X, 1),
+    Move::On(Matrix::T, 0),
+    Move::Exchange(0, 1),
+];
+
+/// What the vector is known by: the state after the first one, the kept function, the width of a coordinate, and how many roots there are.
+type Known = (Option<(u128, u8)>, Node, usize, Option<usize>);
+
+fn known(alloc: Global, d: &Diagrams, q: &SliceQuad) -> Known
+    requires stands { Stands d.now.store q.now }
+    requires two { length d.now.store.order ≡ 2 }
+{
+    (
+        place_after(d, q, &Bits::zeros(2)),
+        kept(q),
+        bits(q, Coord::C).width(),
+        root_count(alloc, q),
+    )
+}
+
+/// Steps on two variables, and the last one once more.
+pub fn expect_steps(rt: &impl Abort, alloc: Global, d: &mut Diagrams, q: &mut SliceQuad)
+    requires { Stands d.old.store q.old }
+{
+    assert!(rt; variables(d) == 2);
+    assert!(rt; (exponent(q), width(q), d.store().held()) == (0, 2, 2));
+    assert!(rt; apply_all(d, q, &MOVES));
+    let entries = [quad(0, 0, 0, 1), quad(0, 0, 0, 0), quad(0, 0, 1, 0)];
+    let wide = usize::from(width(q));
+    let want = (Some((3, 2)), FALSE, wide, Some(4 * wide + 1));
+    assert!(rt; seen(d, q) == (entries, 1) && known(alloc, d, q) == want);
+    assert!(rt; apply_all(d, q, &MOVES[3..]));
+}
+
 #[test]
 fn steps_on_two_variables(rt: HostRuntime) {
-    let alloc = rt.alloc();
-    let zeros = Bits::zeros(2);
-    let (mut d, mut q) = begun(&rt, alloc, &zeros, 64, 16);
-    assert_eq!(rt; (exponent(&q), width(&q), d.store().held()), (0, 2, 2));
-    let moves = [
-        Move::On(Matrix::H, 0),
-        Move::Where(0, Matrix::X, 1),
-        Move::On(Matrix::T, 0),
-        Move::Exchange(0, 1),
-    ];
-    assert!(rt; apply_all(&mut d, &mut q, &moves));
-    let entries = [quad(0, 0, 0, 1), quad(0, 0, 0, 0), quad(0, 0, 1, 0)];
-    assert_eq!(rt; seen(&d, &q), (entries, 1));
-    let wide = usize::from(width(&q));
-    assert_eq!(rt;
-        (
-            place_after(&d, &q, &zeros),
-            kept(&q),
-            bits(&q, Coord::C).width(),
-            root_count(alloc, &q)
-        ),
-        (Some((3, 2)), FALSE, wide, Some(4 * wide + 1))
-    );
-    assert!(rt; apply_all(&mut d, &mut q, &moves[3..]));
+    run(&rt, rt.alloc(), &Bits::zeros(2), 64, 16, Course::Steps);
 }
 
 /// H on the second variable where the first one is set.
 const CONTROLLED: Move = Move::Where(0, Matrix::H, 1);
 
-#[test]
-fn controlled_hadamards_multiply_elsewhere_by_the_root_of_two(rt: HostRuntime) {
-    let alloc = rt.alloc();
-    let (mut d, mut q) = begun(&rt, alloc, &Bits::zeros(2), 256, 16);
+static TURNED: [Move; 3] = [Move::On(Matrix::H, 0), Move::On(Matrix::T, 0), CONTROLLED];
+
+/// Controlled turns, one of them at too small a width.
+pub fn expect_controlled(rt: &impl Abort, d: &mut Diagrams, q: &mut SliceQuad)
+    requires { Stands d.old.store q.old }
+{
     let none = quad(0, 0, 0, 0);
     let root = quad(-1, 0, 1, 0);
     let turned = quad(0, 0, 1, 0);
-    assert!(rt; apply_all(&mut d, &mut q, &[CONTROLLED]));
-    assert_eq!(rt; seen(&d, &q), ([root, none, none], 1));
-    assert_eq!(rt;
-        apply(&mut d, &mut q, CONTROLLED, 2),
-        Some(Err(QuadStop::Width))
+    assert!(rt; is_applied(d, q, CONTROLLED) && seen(d, q) == ([root, none, none], 1));
+    assert!(rt; apply(d, q, CONTROLLED, 2) == Some(Err(QuadStop::Width)));
+    let one = ([quad(0, 0, 0, 1), none, none], 0);
+    assert!(rt; is_applied(d, q, CONTROLLED) && seen(d, q) == one);
+    assert!(rt; apply_all(d, q, &TURNED) && seen(d, q) == ([root, turned, turned], 2));
+}
+
+#[test]
+fn controlled_hadamards_multiply_elsewhere_by_the_root_of_two(rt: HostRuntime) {
+    run(
+        &rt,
+        rt.alloc(),
+        &Bits::zeros(2),
+        256,
+        16,
+        Course::Controlled,
     );
-    assert!(rt; apply_all(&mut d, &mut q, &[CONTROLLED]));
-    assert_eq!(rt; seen(&d, &q), ([quad(0, 0, 0, 1), none, none], 0));
-    let moves = [Move::On(Matrix::H, 0), Move::On(Matrix::T, 0), CONTROLLED];
-    assert!(rt; apply_all(&mut d, &mut q, &moves));
-    assert_eq!(rt; seen(&d, &q), ([root, turned, turned], 2));
+}
+
+/// A step that is refused for want of a node more than two.
+pub fn expect_full(rt: &impl Abort, d: &mut Diagrams, q: &mut SliceQuad)
+    requires { Stands d.old.store q.old }
+{
+    let stop = apply(d, q, Move::On(Matrix::H, 0), 128);
+    let seen = (entry_at(d, q, b"00"), exponent(q));
+    assert!(rt; stop == Some(Err(QuadStop::Full { held: 2 })));
+    assert!(rt; seen == (quad(0, 0, 0, 1), 0));
+}
+
+/// The stop of a start with so many nodes.
+fn stop_of(alloc: Global, limit: u32) -> Option<StoreStop>
+    requires some { 1 ≤ limit }
+    requires few { limit ≤ 6 }
+{
+    begin(alloc, &Bits::zeros(2), limit, 16).err()
 }
 
 #[test]
 fn a_full_store_stops_a_start_and_a_step(rt: HostRuntime) {
-    let alloc = rt.alloc();
-    let zeros = Bits::zeros(2);
-    assert!(rt;
-        matches!(
-            begin(alloc, &zeros, 1, 16),
-            Err(StoreStop::Full { held: 1 })
-        )
-    );
-    let (mut d, mut q) = begun(&rt, alloc, &zeros, 2, 16);
-    let stop = apply(&mut d, &mut q, Move::On(Matrix::H, 0), 128);
-    assert_eq!(rt;
-        (stop, Some(entry(&d, &q, &zeros)), exponent(&q)),
-        (Some(Err(QuadStop::Full { held: 2 })), quad(0, 0, 0, 1), 0)
-    );
+    assert!(rt; stop_of(rt.alloc(), 1) == Some(StoreStop::Full { held: 1 }));
+    run(&rt, rt.alloc(), &Bits::zeros(2), 2, 16, Course::Full);
 }
 
-/// The identity of two qubits over so many nodes.
-fn identity_within(alloc: Global, limit: u32) -> Result<(Diagrams, SliceQuad), StoreStop>
+/// How many entries of the identity of two qubits are right, how many nodes are held, the exponent, and whether the last coordinate is 1
+/// where the kept function is true.
+type Identity = (u32, u32, u32, bool);
+
+fn identity_in(alloc: Global, d: &mut Diagrams) -> Result<Identity, StoreStop>
+    requires empty { held d.old.store ≡ 0 }
+    requires order { d.old.store.order ≡ range_with_len 0 4 }
+{
+    let q = identity(alloc, d, 2)?;
+    let count = each_entry(d, &q);
+    let ones = bits(&q, Coord::D).bit(0) == kept(&q);
+    let got = (count, d.store().held(), exponent(&q), ones);
+    drop(q);
+    Ok(got)
+}
+
+/// How many entries are those of the identity of two qubits.
+fn each_entry(d: &Diagrams, q: &SliceQuad) -> u32
+    requires stands { Stands d.now.store q.now }
+    requires four { length d.now.store.order ≡ 4 }
+{
+    let mut count = 0u32;
+    for place in 0..16u8 {
+        let x = Bits::at_place(u128::from(place), 4);
+        let one = i128::from(x.get(0) == x.get(1) && x.get(2) == x.get(3));
+        if Some(entry(d, q, &x)) == quad(0, 0, 0, one) {
+            count = count.wrapping_add(1);
+        }
+    }
+    count
+}
+
+/// The same over so many nodes.
+fn identity_within(alloc: Global, limit: u32) -> Result<Identity, StoreStop>
     requires some { 1 ≤ limit }
     requires few { limit ≤ 6 }
-    ensures stands { IfOk result (λ r. Stands r.0.store r.1) }
-    ensures order { IfOk result (λ r. length r.0.store.order ≡ 4) }
 {
     let mut d = Diagrams::new(alloc, 4, limit, 16)?;
-    let q = identity(alloc, &mut d, 2)?;
-    Ok((d, q))
+    let got = identity_in(alloc, &mut d);
+    drop(d);
+    got
 }
 
 #[test]
 fn identity_on_two_qubits(rt: HostRuntime) {
-    let alloc = rt.alloc();
-    assert!(rt; matches!(identity_within(alloc, 5), Err(StoreStop::Full { held: 5 })));
-    let Ok((d, q)) = identity_within(alloc, 6) else {
-        panic!(rt; "no room");
-    };
-    assert_eq!(rt;
-        (d.store().held(), exponent(&q), bits(&q, Coord::D).bit(0)),
-        (6, 0, kept(&q))
-    );
-    for number in 0..16u8 {
-        let x = Bits::at_place(u128::from(number), 4);
-        let one = i128::from(x.get(0) == x.get(1) && x.get(2) == x.get(3));
-        assert_eq!(rt; Some(entry(&d, &q, &x)), quad(0, 0, 0, one));
-    }
+    let stop = Err(StoreStop::Full { held: 5 });
+    assert!(rt; identity_within(rt.alloc(), 5) == stop);
+    assert!(rt; identity_within(rt.alloc(), 6) == Ok((16, 6, 0, true)));
 }

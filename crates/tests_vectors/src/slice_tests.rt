@@ -9,7 +9,6 @@ use node_store::{FALSE, Node, StoreStop, TRUE};
 use slice_vec::{Slices, add, all_even, fix, halve, negate_where, select, trim, value_at, zero};
 use std::alloc::Global;
 use std::marker::Brand;
-use std::process::Abort;
 use std::sync::ledger::{Blank, Ledger};
 use steps::Steps;
 
@@ -227,7 +226,7 @@ fn wanted(width: usize, values: [i8; 4]) -> Option<(Seen, (Seen, Seen))> {
 }
 
 /// Values of integers of two variables, at the points 00, 01, 10 and 11.
-const VALUES: [[i8; 4]; 6] = [
+static VALUES: [[i8; 4]; 6] = [
     [0, 0, 0, 0],
     [-4, -4, -4, -4],
     [0, 1, 2, 3],
@@ -246,36 +245,41 @@ fn sums(a: [i8; 4], b: [i8; 4]) -> [i8; 4] {
     ]
 }
 
-/// Compares a sum, a negation where the first variable is true, a choice by it, and that choice with the second variable true.
-fn expect_pair(rt: &impl Abort, alloc: Global, d: &mut Diagrams, x0: Node, a: [i8; 4], b: [i8; 4]) {
+/// Whether a sum, a negation where the first variable is true, a choice by it, and that choice with the second variable true are right.
+fn is_right(alloc: Global, d: &mut Diagrams, x0: Node, a: [i8; 4], b: [i8; 4]) -> bool {
     let negated = [a[0], a[1], a[2].wrapping_neg(), a[3].wrapping_neg()];
     let chosen = [b[0], b[1], a[2], a[3]];
-    let sum = seen_of(alloc, d, Operation::Sum, a, b);
-    let negation = seen_of(alloc, d, Operation::Negated(x0), a, b);
-    let choice = seen_of(alloc, d, Operation::Chosen(x0), a, b);
-    let fixed = seen_of(alloc, d, Operation::Fixed(1, true), chosen, b);
-    assert_eq!(rt;
-        (sum, negation, choice, fixed),
-        (
-            wanted(4, sums(a, b)),
-            wanted(4, negated),
-            wanted(3, chosen),
-            wanted(3, [b[1], b[1], a[3], a[3]])
-        ),
-        "{a:?} {b:?}"
-    );
+    let fixed = [b[1], b[1], a[3], a[3]];
+    seen_of(alloc, d, Operation::Sum, a, b) == wanted(4, sums(a, b))
+        && seen_of(alloc, d, Operation::Negated(x0), a, b) == wanted(4, negated)
+        && seen_of(alloc, d, Operation::Chosen(x0), a, b) == wanted(3, chosen)
+        && seen_of(alloc, d, Operation::Fixed(1, true), chosen, b) == wanted(3, fixed)
+}
+
+/// How many pairs are right.
+fn each_pair(alloc: Global, d: &mut Diagrams) -> Option<u32>
+    requires { length d.old.store.order ≡ 2 }
+{
+    let (x0, _) = variables(d).ok()?;
+    let mut count = 0u32;
+    for pair in 0..36usize {
+        let (a, b) = (VALUES[pair / 6], VALUES[pair % 6]);
+        count = count.wrapping_add(u32::from(is_right(alloc, d, x0, a, b)));
+    }
+    Some(count)
+}
+
+/// The same in diagrams of two variables.
+fn each_pair_once(alloc: Global) -> Option<u32> {
+    let mut d = Diagrams::new(alloc, 2, 64, 64).ok()?;
+    let count = each_pair(alloc, &mut d);
+    drop(d);
+    count
 }
 
 #[test]
 fn all_operations_on_pairs_of_values(rt: HostRuntime) {
-    let alloc = rt.alloc();
-    let mut d = Diagrams::new(alloc, 2, 64, 64).expect(&rt, "memory");
-    let (x0, _) = variables(&mut d).expect(&rt, "room");
-    for a in VALUES {
-        for b in VALUES {
-            expect_pair(&rt, alloc, &mut d, x0, a, b);
-        }
-    }
+    assert!(rt; each_pair_once(rt.alloc()) == Some(36));
 }
 
 /// The width, the value where the only variable is false, and whether all values are odd.
@@ -302,34 +306,47 @@ fn twice_minus_two(
     Some(seen_low(d, &answer))
 }
 
+/// The width, the value where the only variable is false, and whether all values are odd, of two answers.
+type TwoLow = [(usize, Option<i128>, bool); 2];
+
+/// The negation of -2 and the sum of -2 and -2, and how many nodes they need.
+fn minus_twos(alloc: Global, d: &mut Diagrams) -> Option<(TwoLow, u32)> {
+    let negation = twice_minus_two(alloc, d, Operation::Negated(TRUE))?;
+    let sum = twice_minus_two(alloc, d, Operation::Sum)?;
+    Some(([negation, sum], d.store().held()))
+}
+
+/// 1 where the variable is true, else -1; and the same with the variable fixed to false.
+fn chosen_and_fixed(alloc: Global, d: &mut Diagrams) -> Option<TwoLow> {
+    if d.store().order().len() != 1 {
+        return None;
+    }
+    let n = d.variable(0).ok()?;
+    let chosen = choice(alloc, d, n, -1, 1)?;
+    let fixed = made(d, Operation::Fixed(0, false), &chosen, &chosen)?.ok()?;
+    Some([seen_low(d, &chosen), seen_low(d, &fixed)])
+}
+
+/// Both in diagrams of one variable.
+fn of_one_variable(alloc: Global) -> Option<(Option<(TwoLow, u32)>, Option<TwoLow>)> {
+    let mut d = Diagrams::new(alloc, 1, 8, 8).ok()?;
+    let both = minus_twos(alloc, &mut d);
+    let chosen = chosen_and_fixed(alloc, &mut d);
+    drop(d);
+    Some((both, chosen))
+}
+
 // -2 negated is 2, and -2 and -2 are -4, both in three bits.
 #[test]
 fn negate_minus_two_and_add_minus_two(rt: HostRuntime) {
-    let alloc = rt.alloc();
-    let mut d = Diagrams::new(alloc, 1, 8, 8).expect(&rt, "memory");
-    let negation = twice_minus_two(alloc, &mut d, Operation::Negated(TRUE));
-    let sum = twice_minus_two(alloc, &mut d, Operation::Sum);
-    assert_eq!(rt;
-        (negation, sum, d.store().held()),
-        (Some((3, Some(2), false)), Some((3, Some(-4), false)), 0)
-    );
+    let want = ([(3, Some(2), false), (3, Some(-4), false)], 0);
+    assert!(rt; matches!(of_one_variable(rt.alloc()), Some((Some(got), _)) if got == want));
 }
 
-// 1 where the variable is true, else -1, with the variable fixed to false.
 #[test]
 fn select_then_fix(rt: HostRuntime) {
-    let alloc = rt.alloc();
-    let mut d = Diagrams::new(alloc, 1, 8, 8).expect(&rt, "memory");
-    let n = d.variable(0).expect(&rt, "room");
-    let chosen = choice(alloc, &mut d, n, -1, 1).expect(&rt, "room");
-    let Some(Ok(fixed)) = made(&mut d, Operation::Fixed(0, false), &chosen, &chosen) else {
-        panic!(rt; "no room");
-    };
-    let minus_one = (3, Some(-1), true);
-    assert_eq!(rt;
-        (seen_low(&d, &chosen), seen_low(&d, &fixed)),
-        (minus_one, minus_one)
-    );
+    let want = [(3, Some(-1), true); 2];
+    assert!(rt; matches!(of_one_variable(rt.alloc()), Some((_, Some(got))) if got == want));
 }
 
 /// The sum of two variables, which needs five nodes, or one negated where the other is true, which
@@ -355,36 +372,49 @@ fn two_variables(
     made(d, operation, &x, &y)
 }
 
-/// The answer at a limit, and how many nodes are held.
-fn at_limit(
-    alloc: Global,
-    limit: u32,
-    negates: bool,
-) -> Option<(Result<[Option<i128>; 4], StoreStop>, u32)>
-    requires some_nodes { 1 ≤ limit }
-    requires most { limit ≤ 8 }
+/// The answer's values or the stop, and how many nodes are held.
+type AtLimit = (Result<[Option<i128>; 4], StoreStop>, u32);
+
+fn limited(alloc: Global, d: &mut Diagrams, negates: bool) -> Option<AtLimit>
+    requires { length d.old.store.order ≡ 2 }
 {
-    let mut d = Diagrams::new(alloc, 2, limit, 8).ok()?;
-    let answer = two_variables(alloc, &mut d, negates)?;
+    let answer = two_variables(alloc, d, negates)?;
     let held = d.store().held();
     match answer {
-        Ok(x) => Some((Ok(seen(&d, &x).1), held)),
+        Ok(x) => Some((Ok(seen(d, &x).1), held)),
         Err(stop) => Some((Err(stop), held)),
     }
 }
 
-// It is full below the nodes that are needed, and right from there on.
+/// The same in diagrams with so many nodes.
+fn at_limit(alloc: Global, limit: u32, negates: bool) -> Option<AtLimit>
+    requires some_nodes { 1 ≤ limit }
+    requires most { limit ≤ 8 }
+{
+    let mut d = Diagrams::new(alloc, 2, limit, 8).ok()?;
+    let got = limited(alloc, &mut d, negates);
+    drop(d);
+    got
+}
+
+/// Full below the nodes that are needed, and right from there on.
+fn wanted_at(limit: u32, needed: u32, values: [i8; 4]) -> AtLimit {
+    if limit < needed {
+        (Err(StoreStop::Full { held: limit }), limit)
+    } else {
+        (Ok(four(values, false)), needed)
+    }
+}
+
 #[test]
 fn a_full_store_stops_sums_and_negations(rt: HostRuntime) {
-    let rows = [(false, 5, [0, 1, 1, 2]), (true, 4, [0, 0, 1, -1])];
-    for (negates, needed, values) in rows {
-        for limit in 1..=8u32 {
-            let wanted = if limit < needed {
-                (Err(StoreStop::Full { held: limit }), limit)
-            } else {
-                (Ok(four(values, false)), needed)
-            };
-            assert_eq!(rt; at_limit(rt.alloc(), limit, negates), Some(wanted));
-        }
+    for limit in 1..=8u32 {
+        let sum = at_limit(rt.alloc(), limit, false);
+        let negation = at_limit(rt.alloc(), limit, true);
+        assert!(rt; sum == Some(wanted_at(limit, 5, [0, 1, 1, 2])), "{limit}");
+        assert!(rt;
+            negation == Some(wanted_at(limit, 4, [0, 0, 1, -1])),
+            "{limit}"
+        );
     }
 }

@@ -3,6 +3,7 @@ ghost use Rattle.std.specs.Prelude.{◌≡◌, ◌≤◌, IfOk, IfSome, length};
 ghost use Rattle.slice_quad.specs.Stepping.{AreReducedRows, IsStepOn, half_of};
 ghost use Rattle.slice_quad.specs.Vectors.{Stands};
 
+use crate::{gate_tests, quad_tests, upkeep_tests, walk_tests, weight_tests};
 use bit_lists::Bits;
 use diagram_ops::Diagrams;
 use gate_set::Entry;
@@ -108,29 +109,91 @@ pub fn begin(
     ensures order { IfOk result (λ r. length r.0.store.order ≡ length x.now) }
 {
     let mut d = Diagrams::new(alloc, x.len(), limit, capacity)?;
-    let q = start(alloc, &mut d, x)?;
-    Ok((d, q))
+    match start(alloc, &mut d, x) {
+        Ok(q) => Ok((d, q)),
+        Err(stop) => {
+            drop(d);
+            Err(stop)
+        }
+    }
 }
 
-/// The same where there is room.
-pub fn begun(
-    rt: &impl Abort,
-    alloc: Global,
-    x: &Bits,
-    limit: u32,
-    capacity: u32,
-) -> (Diagrams, SliceQuad)
+/// What is done with a vector, and compared.
+#[derive(Clone, Copy)]
+pub enum Course {
+    /// Steps on two variables.
+    Steps,
+    /// H on the second of two variables where the first one is set.
+    Controlled,
+    /// A step without room.
+    Full,
+    /// One gate on one variable.
+    Gate,
+    /// Gates on three variables with reclaims after each so many.
+    Reclaims(u32),
+    /// Walks through four variables after each step.
+    Walks,
+    /// Walks through 64 variables.
+    LongWalks,
+    /// Walks through four variables in three orders.
+    Orders,
+    /// The numbers of states once the first variables are turned, all are chained, and the first ones are turned.
+    Numbers(u8, u8, (u128, u128, u128)),
+    /// All weights of four variables.
+    Weights,
+    /// Outcomes of four variables, one after another.
+    Following,
+    /// All outcomes of four variables, before or after steps.
+    Outcomes(bool),
+    /// The total weight after so many turns: the exponent, and the weight.
+    Total(u8, u32, Option<i128>),
+}
+
+/// Does what a course says, and compares.
+fn follow(rt: &impl Abort, alloc: Global, d: &mut Diagrams, q: &mut SliceQuad, course: Course)
+    requires { Stands d.old.store q.old }
+{
+    match course {
+        Course::Steps => quad_tests::expect_steps(rt, alloc, d, q),
+        Course::Controlled => quad_tests::expect_controlled(rt, d, q),
+        Course::Full => quad_tests::expect_full(rt, d, q),
+        Course::Gate => gate_tests::expect_gate(rt, alloc, d, q),
+        Course::Reclaims(every) => upkeep_tests::expect_reclaims(rt, alloc, d, q, every),
+        Course::Walks => walk_tests::expect_walks(rt, alloc, d, q),
+        Course::LongWalks => walk_tests::expect_long_walks(rt, alloc, d, q),
+        Course::Orders => walk_tests::expect_orders(rt, alloc, d, q),
+        Course::Numbers(first, again, numbers) => {
+            walk_tests::expect_numbers(rt, alloc, d, q, (first, again), numbers)
+        }
+        Course::Weights => weight_tests::expect_all_weights(rt, alloc, d, q),
+        Course::Following => weight_tests::expect_following(rt, alloc, d, q),
+        Course::Outcomes(spread) => weight_tests::expect_each_list(rt, alloc, d, q, spread),
+        Course::Total(turns, exponent, weight) => {
+            weight_tests::expect_total(rt, alloc, d, q, turns, (exponent, weight))
+        }
+    }
+}
+
+/// The same of a vector that begins with `x`, with so many nodes and cached answers.
+pub fn run(rt: &impl Abort, alloc: Global, x: &Bits, limit: u32, capacity: u32, course: Course)
     requires some { 1 ≤ limit }
     requires limit { limit ≤ 65536 }
     requires some_entry { 1 ≤ capacity }
     requires capacity { capacity ≤ 1024 }
-    ensures stands { Stands result.0.store result.1 }
-    ensures order { length result.0.store.order ≡ length x.now }
 {
-    let Ok(both) = begin(alloc, x, limit, capacity) else {
+    let Ok((mut d, mut q)) = begin(alloc, x, limit, capacity) else {
         panic!(rt; "no room");
     };
-    both
+    follow(rt, alloc, &mut d, &mut q, course);
+    drop(q);
+    drop(d);
+}
+
+/// How many variables there are.
+pub fn variables(d: &Diagrams) -> u8
+    ensures { result ≡ length d.now.store.order }
+{
+    d.store().order().len()
 }
 
 /// Applies a step at a width. None where it isn't one on these variables.
@@ -161,10 +224,18 @@ pub fn apply_all(d: &mut Diagrams, q: &mut SliceQuad, moves: &[Move]) -> bool
 {
     let mut all = true;
     for m in moves {
-        let done = apply(d, q, *m, 128) == Some(Ok(()));
-        all = all && done;
+        all = is_applied(d, q, *m) && all;
     }
     all
+}
+
+/// Applies a step at the greatest width. Whether it is accepted.
+pub fn is_applied(d: &mut Diagrams, q: &mut SliceQuad, m: Move) -> bool
+    requires stands { Stands d.old.store q.old }
+    ensures stands { Stands d.new.store q.new }
+    ensures order { d.new.store.order ≡ d.old.store.order }
+{
+    apply(d, q, m, 128) == Some(Ok(()))
 }
 
 /// An entry that is there.

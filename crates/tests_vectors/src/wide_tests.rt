@@ -1,5 +1,5 @@
 //! The greatest total weight: integers at the two states of one variable, given by their bits.
-ghost use Rattle.std.specs.Prelude.{IfSome};
+ghost use Rattle.std.specs.Prelude.{◌≡◌, length, IfSome};
 ghost use Rattle.slice_quad.specs.Vectors.{Stands};
 
 use crate::slice_tests::stands;
@@ -54,34 +54,48 @@ fn weight_of_all(alloc: Global, d: &Diagrams, q: &SliceQuad) -> Option<Result<We
     Some(weigh(alloc, d, q, &Partial::free(order.len())))
 }
 
-/// The weight of the two states, where the first coordinate is the same at both, and the others are 0 at the first one.
-fn weight_of_both(alloc: Global, numbers: [u64; 4]) -> Option<Result<Weight, WeighStop>> {
-    let mut d = Diagrams::new(alloc, 1, 16, 16).ok()?;
-    let n = d.variable(0).ok()?;
-    let four = Four {
+/// The coordinates at the two states: the first one is the same at both, and the others are 0 at the first state.
+fn four_of(alloc: Global, numbers: [u64; 4], n: Node) -> Option<Four> {
+    Some(Four {
         a: number_at(alloc, numbers[0], TRUE)?,
         b: number_at(alloc, numbers[1], n)?,
         c: number_at(alloc, numbers[2], n)?,
         d: number_at(alloc, numbers[3], n)?,
-    };
-    let q = vector_of(&d, four)?;
-    weight_of_all(alloc, &d, &q)
+    })
+}
+
+/// The weight of the two states.
+fn weight_in(
+    alloc: Global,
+    d: &mut Diagrams,
+    numbers: [u64; 4],
+) -> Option<Result<Weight, WeighStop>>
+    requires { length d.old.store.order ≡ 1 }
+{
+    let n = d.variable(0).ok()?;
+    let q = vector_of(d, four_of(alloc, numbers, n)?)?;
+    let weight = weight_of_all(alloc, d, &q);
+    drop(q);
+    weight
+}
+
+/// The same in diagrams of one variable.
+fn weight_of_both(alloc: Global, numbers: [u64; 4]) -> Option<Result<Weight, WeighStop>> {
+    let mut d = Diagrams::new(alloc, 1, 16, 16).ok()?;
+    let weight = weight_in(alloc, &mut d, numbers);
+    drop(d);
+    weight
 }
 
 // The squares of the coordinates at both states, added up, are 2^127 - 1 and 2^127.
 #[test]
 fn greatest_total_weight(rt: HostRuntime) {
-    let alloc = rt.alloc();
     let a = (1 << 63) - 1;
     let greatest = Weight {
         a: i128::MAX,
         b: -56019411740121651879142127661,
     };
-    assert_eq!(rt;
-        (
-            weight_of_both(alloc, [a, 364198, 20148, 6074000989]),
-            weight_of_both(alloc, [a, 746015, 41083, 6074000954])
-        ),
-        (Some(Ok(greatest)), Some(Err(WeighStop::TooWide)))
-    );
+    let narrow = weight_of_both(rt.alloc(), [a, 364198, 20148, 6074000989]);
+    let wide = weight_of_both(rt.alloc(), [a, 746015, 41083, 6074000954]);
+    assert!(rt; narrow == Some(Ok(greatest)) && wide == Some(Err(WeighStop::TooWide)));
 }

@@ -1,9 +1,5 @@
-use Rattle.std.proofs.Common.{◌≡◌, length}
 use Rattle.slice_quad.specs.Vectors.{Stands}
 use Rattle.tests_vectors.proofs.upkeep_tests.same_bits.Given as goal
 
 abbrev pub invariant-loop-i : goal.invariant-loop-i
-invariant-loop-i l = record {
-  stands : Stands l.d.store l.q;
-  three : length l.d.store.order ≡ 3;
-}
+invariant-loop-i l = Stands l.d.store l.q
