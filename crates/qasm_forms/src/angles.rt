@@ -37,6 +37,16 @@ impl<'a> Angles<'a> {
         self.done = last;
         Some(angle)
     }
+
+    /// The same once more, so that one of them can be read.
+    pub fn ahead(&self) -> Angles<'a>
+        ensures { result ≡ self.now }
+    {
+        Angles {
+            rest: self.rest.ahead(),
+            done: self.done,
+        }
+    }
 }
 
 // Goes past angles and the closing parenthesis after them. False where they are none.

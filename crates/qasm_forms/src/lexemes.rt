@@ -4,14 +4,17 @@ ghost use Rattle.std.specs.List.{list_any, position_or_len};
 ghost use Rattle.std.specs.Str.{bytes_eq};
 ghost use Rattle.qasm_lex.specs.declared.refusal.AngleRefusal.{AngleRefusal};
 ghost use Rattle.qasm_lex.specs.Fractions.{Ratio};
-ghost use Rattle.qasm_lex.specs.Angles.{IsAnswer, answer_of};
+ghost use Rattle.qasm_lex.specs.Angles.{IsAnswer, answer_of, IsOutcome, outcome_by};
 ghost use Rattle.qasm_lex.specs.Lexemes.{IsWithin, lexemes_of, lexeme_of, of_kind};
-ghost use Rattle.qasm_lex.specs.Symbols.{symbols};
+ghost use Rattle.qasm_lex.specs.Symbols.{symbol_of, symbols};
 ghost use Rattle.qasm_forms.specs.Statements.{is_mark, is_name, begins_small, keywords};
 ghost use Rattle.qasm_forms.specs.Private.Fronts.{seen, then_bytes, name_at, digits_at, mark_at, marked, ends_angle, deeper, angle_place, angle_at, then_angle, plus, end_place, then_end, seen_end};
 ghost use Rattle.qasm_forms.specs.Cutting.{seen_bytes, word_at, is_nothing, is_stop, before_stop, has_stop, after_stop, end_by, end_at};
 
-use qasm_lex::{AngleRefusal, PiFraction, Token, TokenKind, angle, is_one_of};
+use qasm_lex::{
+    AngleRefusal, AngleValue, PiFraction, Symbol, Token, TokenKind, angle, angle_value, is_one_of,
+    symbol_of,
+};
 use std::marker::Model;
 
 /// A token with its bytes.
@@ -41,6 +44,23 @@ pub enum Stop {
 pub enum Closing {
     Semicolon,
     Brace,
+}
+
+impl<'a> Lexeme<'a> {
+    /// What it stands for in an expression, where it names no parameter. The work is linear in its bytes.
+    pub fn symbol(self) -> Symbol
+        ensures { result ≡ symbol_of (seen self.entry) }
+    {
+        match self {
+            Lexeme::Word(bytes) => symbol_of(TokenKind::Word, bytes),
+            Lexeme::Whole(digits) => symbol_of(TokenKind::Whole, digits),
+            Lexeme::Real(bytes) => symbol_of(TokenKind::Real, bytes),
+            Lexeme::Quoted(bytes) => symbol_of(TokenKind::Text, bytes),
+            Lexeme::Arrow => symbol_of(TokenKind::Arrow, b"->"),
+            Lexeme::Equal => symbol_of(TokenKind::Equal, b"=="),
+            Lexeme::Mark(mark) => symbol_of(TokenKind::Mark(mark), b""),
+        }
+    }
 }
 
 /// A list of tokens of a text, read from the front.
@@ -122,6 +142,13 @@ impl<'a> Lexemes<'a> {
         ensures only { (answer : Result Ratio AngleRefusal) → IsAnswer (symbols self.now) answer → answer ≡ answer_of result }
     {
         angle(self.text, self.tokens)
+    }
+
+    /// The value that they spell, where no name is a parameter's, or the refusal that is met first.
+    pub fn value(&self) -> Result<AngleValue, AngleRefusal>
+        ensures { IsOutcome [] (symbols self.now) (outcome_by result) }
+    {
+        angle_value(self.text, self.tokens, &[])
     }
 
     /// The word that is first.

@@ -82,13 +82,13 @@ means_ok g (Ok vs) basics e = (vs, e)
 means_ok g (Err x) basics e = absurd cc
 
 -- a call in a body: of a good gate, on different arguments of the one that is defined
-pub record IsFit (n : ℕ) (c : Call) : Type 0 where
+pub record IsProperCall (n : ℕ) (c : Call) : Type 0 where
   pub good : IsGood c.called
   pub counted : length c.on ≡ c.called.arity
   pub below : All (λ k. k < n) c.on
   pub different : AllPairs (λ p q. p ≢ q) c.on
 
-call_good : (n : ℕ) (c : Call) (given : List Value) (basics : List Basic) → IsFit n c → call_means given c ≡ Ok basics → AreProper n basics
+call_good : (n : ℕ) (c : Call) (given : List Value) (basics : List Basic) → IsProperCall n c → call_means given c ≡ Ok basics → AreProper n basics
 call_good n c given basics f e =
     let m = ok_mapped (map (call_on c.on)) (means_for c.called (all_of (map (eval (values given)) c.angles))) basics e in
     let v = means_ok c.called (all_of (map (eval (values given)) c.angles)) m.0 m.1 in
@@ -100,12 +100,12 @@ joined_ok (Ok first) (Ok more) basics e = (first, more, refl, refl, (let q : fir
 joined_ok (Ok first) (Err x) basics e = absurd cc
 joined_ok (Err x) b basics e = absurd cc
 
-body_good : (n : ℕ) (calls : List Call) (given : List Value) (basics : List Basic) → All (IsFit n) calls → body_means given calls ≡ Ok basics → AreProper n basics
+pub body_good : (n : ℕ) (calls : List Call) (given : List Value) (basics : List Basic) → All (IsProperCall n) calls → body_means given calls ≡ Ok basics → AreProper n basics
 body_good n [] given basics f e = let q : [] ≡ basics = cc e in subst (AreProper n) q (All-nil (IsProper n))
 body_good n (c ∷ calls) given basics f e =
     let j = joined_ok (call_means given c) (body_means given calls) basics e in
     subst (AreProper n) j.4
-    (All-append (IsProper n) j.0 j.1 (call_good n c given j.0 (All-head (IsFit n) c calls f) j.2) (body_good n calls given j.1 (All-tail (IsFit n) c calls f) j.3))
+    (All-append (IsProper n) j.0 j.1 (call_good n c given j.0 (All-head (IsProperCall n) c calls f) j.2) (body_good n calls given j.1 (All-tail (IsProperCall n) c calls f) j.3))
 
 -- gates that are good, with the arities of their rows
 pub record AreGood (s : Store) (gs : List Named) : Type 0 where
@@ -129,11 +129,11 @@ callee_params s gs (Defined i) a h = sym (a.params i h)
 pub on_length : (s : Store) (n : ℕ) (l : Line) → IsLine s n l → length (on_at s l) ≡ callee_arity s.rows l.callee
 on_length s n l h = range_length s.on l.on (l.on + callee_arity s.rows l.callee) h.on_within ∙ omega arith
 
-lines_fit : (s : Store) (gs : List Named) (n : ℕ) (ls : List Line) → AreGood s gs → All (IsLine s (length gs)) ls → All (λ l. AreBelow n (on_at s l)) ls → All (IsFit n) (map (line_at s gs) ls)
-lines_fit s gs n [] a h b = All-nil (IsFit n)
+lines_fit : (s : Store) (gs : List Named) (n : ℕ) (ls : List Line) → AreGood s gs → All (IsLine s (length gs)) ls → All (λ l. AreBelow n (on_at s l)) ls → All (IsProperCall n) (map (line_at s gs) ls)
+lines_fit s gs n [] a h b = All-nil (IsProperCall n)
 lines_fit s gs n (l ∷ ls) a h b =
     let i = All-head (IsLine s (length gs)) l ls h in
-    All-cons (IsFit n) (line_at s gs l) (map (line_at s gs) ls)
+    All-cons (IsProperCall n) (line_at s gs l) (map (line_at s gs) ls)
     (record { good = callee_good s gs l.callee a i.callee; counted = on_length s (length gs) l i ∙ callee_counted s gs l.callee a i.callee; below = All-head (λ l. AreBelow n (on_at s l)) l ls b; different = i.different })
     (lines_fit s gs n ls a (All-tail (IsLine s (length gs)) l ls h) (All-tail (λ l. AreBelow n (on_at s l)) l ls b))
 

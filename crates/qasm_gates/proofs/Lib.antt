@@ -11,3 +11,5 @@ pub mod Good
 pub mod Placed
 pub mod Expanded
 pub mod Naming
+pub mod Done
+pub mod Sound

@@ -1,5 +1,5 @@
 -- The number of quarter turns, or of eighths of a turn, that a fraction is, as a function.
-use Rattle.std.proofs.Common.{◌≡◌, ◌∙◌, sym, ap, refl, ◌<◌, ℕ, Bool, true, false, cond, nat_eq, Option, Some, None, IfSome, arith, ℤ, pos, negsuc, ◌≤ℤ◌, ◌+ℤ◌, ◌*ℤ◌, int_div, unsigned_abs}
+use Rattle.std.proofs.Common.{◌≡◌, ◌∙◌, sym, ap, refl, subst, ◌<◌, ℕ, Bool, true, false, cond, nat_eq, Option, Some, None, IfSome, arith, ℤ, pos, negsuc, ◌≤ℤ◌, ◌+ℤ◌, ◌*ℤ◌, int_div, unsigned_abs}
 use Rattle.std.specs.Prelude.{int_rem}
 use Rattle.std.specs.Int.{int_rem_euclid}
 use Rattle.std.proofs.lemmas.Bool.{eqb-true}
@@ -74,3 +74,41 @@ turns_below k f m e = by (nat_eq (unsigned_abs (int_rem (f.num *ℤ pos k) f.den
     by : (x : Bool) → cond x (Some (unsigned_abs (int_rem_euclid (int_div (f.num *ℤ pos k) f.den) (pos 8)))) None ≡ Some m → m < 8
     by true e = let s = same_Some (unsigned_abs (int_rem_euclid (int_div (f.num *ℤ pos k) f.den) (pos 8))) m e in let b = below_eight (int_div (f.num *ℤ pos k) f.den) in omega arith
     by false e = absurd cc
+
+same_eighth : (m r : ℕ) (t k : ℤ) → m < 8 → r < 8 → pos m +ℤ (t *ℤ pos 8) ≡ pos r +ℤ (k *ℤ pos 8) → r ≡ m
+same_eighth m r t k a b e = omega (arith, ints)
+
+-- the function tells such a number
+turns_found : (k : ℕ) (f : Ratio) (m : ℕ) → whole_turns k f ≡ Some m → Is k f m
+unfolding whole_turns
+turns_found k f m e = by (nat_eq (unsigned_abs (int_rem (f.num *ℤ pos k) f.den)) 0) refl e
+  where
+    by : (x : Bool) → nat_eq (unsigned_abs (int_rem (f.num *ℤ pos k) f.den)) 0 ≡ x → cond x (Some (unsigned_abs (int_rem_euclid (int_div (f.num *ℤ pos k) f.den) (pos 8)))) None ≡ Some m → Is k f m
+    by true h e =
+        subst (Is k f) (same_Some (unsigned_abs (int_rem_euclid (int_div (f.num *ℤ pos k) f.den) (pos 8))) m e)
+        (turns_fit k f (int_div (f.num *ℤ pos k) f.den) (divided _ _ _ (quot-rem (f.num *ℤ pos k) f.den) (abs_zero _ h)))
+    by false h e = absurd cc
+
+-- and each such number
+turns_only : (k : ℕ) (f : Ratio) (m : ℕ) → pos 1 ≤ℤ f.den → Is k f m → whole_turns k f ≡ Some m
+unfolding whole_turns
+turns_only k f m p i =
+    let turned = pos m +ℤ (i.times *ℤ pos 8) in
+    let q = quotient_of (f.num *ℤ pos k) turned f.den p i.same in
+    let left = modulo_eight turned in
+    let whole : turned ≡ pos (unsigned_abs (int_rem_euclid turned (pos 8))) +ℤ (left.0 *ℤ pos 8) = left.1 ∙ ap (λ z. z +ℤ (left.0 *ℤ pos 8)) (sym (modulo_eight_natural turned)) in
+    ap (λ z. cond (nat_eq (unsigned_abs z) 0) (Some (unsigned_abs (int_rem_euclid (int_div (f.num *ℤ pos k) f.den) (pos 8)))) None) q.1
+    ∙ ap (λ z. Some (unsigned_abs (int_rem_euclid z (pos 8)))) q.0
+    ∙ ap Some (same_eighth m (unsigned_abs (int_rem_euclid turned (pos 8))) i.times left.0 i.below (below_eight turned) whole)
+
+pub quarters_found : (f : Ratio) (m : ℕ) → whole_turns 2 f ≡ Some m → IsQuarters f m
+quarters_found f m e = let i = turns_found 2 f m e in record { below = i.below; times = i.times; same = i.same }
+
+pub eighths_found : (f : Ratio) (m : ℕ) → whole_turns 4 f ≡ Some m → IsEighths f m
+eighths_found f m e = let i = turns_found 4 f m e in record { below = i.below; times = i.times; same = i.same }
+
+pub quarters_only : (f : Ratio) (m : ℕ) → pos 1 ≤ℤ f.den → IsQuarters f m → whole_turns 2 f ≡ Some m
+quarters_only f m p i = turns_only 2 f m p (record { below = i.below; times = i.times; same = i.same })
+
+pub eighths_only : (f : Ratio) (m : ℕ) → pos 1 ≤ℤ f.den → IsEighths f m → whole_turns 4 f ≡ Some m
+eighths_only f m p i = turns_only 4 f m p (record { below = i.below; times = i.times; same = i.same })

@@ -1,5 +1,6 @@
--- The denominators of values are positive.
-use Rattle.std.proofs.Common.{◌≡◌, ◌∙◌, sym, ap, refl, subst, ℕ, Bool, true, false, cond, nat_eq, nat_le, List, [], Option, Some, None, Result, Ok, Err, arith, ℤ, pos, ◌≤ℤ◌, ◌*ℤ◌, unsigned_abs}
+-- The denominators of values are positive, where those of parameters are.
+use Rattle.std.proofs.Common.{◌≡◌, ◌∙◌, sym, ap, refl, subst, ℕ, zero, suc, Bool, true, false, cond, nat_eq, nat_le, List, [], ◌∷◌, get_or, Option, Some, None, Result, Ok, Err, arith, ℤ, pos, ◌≤ℤ◌, ◌*ℤ◌, unsigned_abs}
+use Rattle.std.specs.List.{AllByRecursion}
 use Rattle.std.proofs.lemmas.Int.{ints}
 use Rattle.qasm_lex.specs.declared.symbol.Symbol.{Symbol}
 use Rattle.qasm_lex.specs.declared.value.Value.{Value}
@@ -12,15 +13,15 @@ use Rattle.qasm_lex.specs.Angles.{value_in, IsAnswer}
 use Rattle.qasm_lex.proofs.FractionLemmas.{lowest_den, product_positive}
 
 -- a fraction that there is has a positive denominator
-abbrev Positive : Result Ratio AngleRefusal → Type 0
+abbrev pub Positive : Result Ratio AngleRefusal → Type 0
 Positive (Ok q) = pos 1 ≤ℤ q.den
 Positive (Err e) = Unit {0}
 
 -- a value whose two fractions have
-abbrev IsPositive : Value → Type 0
+abbrev pub IsPositive : Value → Type 0
 IsPositive x = (pos 1 ≤ℤ x.u.den) × (pos 1 ≤ℤ x.v.den)
 
-abbrev MayBePositive : Outcome → Type 0
+abbrev pub MayBePositive : Outcome → Type 0
 MayBePositive (Ok x) = IsPositive x
 MayBePositive (Err e) = Unit {0}
 
@@ -103,21 +104,28 @@ called_positive : (x : Outcome) → MayBePositive (then x (λ _. Err NotExact))
 called_positive (Ok x) = tt
 called_positive (Err e) = tt
 
-eval_positive : (t : Tree) → MayBePositive (eval (values []) t)
-eval_positive (whole n) = number_positive n
-eval_positive real = tt
-eval_positive pi = (omega (arith, ints), omega (arith, ints))
-eval_positive (param n) = whole_positive (pos 0)
-eval_positive (plus l r) = both_positive value_sum (eval (values []) l) (eval (values []) r) value_sum_positive (eval_positive l) (eval_positive r)
-eval_positive (minus l r) = both_positive value_difference (eval (values []) l) (eval (values []) r) value_difference_positive (eval_positive l) (eval_positive r)
-eval_positive (times l r) = both_positive value_product (eval (values []) l) (eval (values []) r) value_product_positive (eval_positive l) (eval_positive r)
-eval_positive (over l r) = both_positive value_quotient (eval (values []) l) (eval (values []) r) value_quotient_positive (eval_positive l) (eval_positive r)
-eval_positive (opposite t) = negative_positive (eval (values []) t) (eval_positive t)
-eval_positive (raised l r) = both_positive (λ _ _. Err NotExact) (eval (values []) l) (eval (values []) r) (λ a b p q. tt) (eval_positive l) (eval_positive r)
-eval_positive (called t) = called_positive (eval (values []) t)
-eval_positive (group t) = eval_positive t
+-- the value of a parameter, or 0
+param_positive : (given : List Value) (n : ℕ) → AllByRecursion IsPositive given → IsPositive (get_or given n (whole_value (pos 0)))
+param_positive [] n a = whole_positive (pos 0)
+param_positive (v ∷ given) zero a = a.0
+param_positive (v ∷ given) (suc n) a = param_positive given n a.1
 
-multiple_positive : (x : Outcome) → MayBePositive x → Positive (multiple_of x)
+module _ (given : List Value) (are : AllByRecursion IsPositive given) where
+  pub eval_positive : (t : Tree) → MayBePositive (eval (values given) t)
+  eval_positive (whole n) = number_positive n
+  eval_positive real = tt
+  eval_positive pi = (omega (arith, ints), omega (arith, ints))
+  eval_positive (param n) = param_positive given n are
+  eval_positive (plus l r) = both_positive value_sum (eval (values given) l) (eval (values given) r) value_sum_positive (eval_positive l) (eval_positive r)
+  eval_positive (minus l r) = both_positive value_difference (eval (values given) l) (eval (values given) r) value_difference_positive (eval_positive l) (eval_positive r)
+  eval_positive (times l r) = both_positive value_product (eval (values given) l) (eval (values given) r) value_product_positive (eval_positive l) (eval_positive r)
+  eval_positive (over l r) = both_positive value_quotient (eval (values given) l) (eval (values given) r) value_quotient_positive (eval_positive l) (eval_positive r)
+  eval_positive (opposite t) = negative_positive (eval (values given) t) (eval_positive t)
+  eval_positive (raised l r) = both_positive (λ _ _. Err NotExact) (eval (values given) l) (eval (values given) r) (λ a b p q. tt) (eval_positive l) (eval_positive r)
+  eval_positive (called t) = called_positive (eval (values given) t)
+  eval_positive (group t) = eval_positive t
+
+pub multiple_positive : (x : Outcome) → MayBePositive x → Positive (multiple_of x)
 multiple_positive (Ok x) p = by (is_zero x.u)
   where
     by : (t : Bool) → Positive (cond t (Ok x.v) (Err NotExact))
@@ -127,7 +135,7 @@ multiple_positive (Err e) p = tt
 
 -- the value of any shape
 shape_positive : (shape : Result Tree AngleRefusal) → MayBePositive (value_in [] shape)
-shape_positive (Ok t) = eval_positive t
+shape_positive (Ok t) = eval_positive [] tt t
 shape_positive (Err e) = tt
 
 -- so the fraction that is answered has a positive denominator

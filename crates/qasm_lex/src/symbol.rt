@@ -2,7 +2,7 @@
 ghost use Rattle.std.specs.Prelude.{◌≡◌, All};
 ghost use Rattle.std.specs.List.{list_any, slice_range};
 ghost use Rattle.std.specs.Str.{bytes_eq};
-ghost use Rattle.qasm_lex.specs.Lexemes.{IsWithin, lexeme_of};
+ghost use Rattle.qasm_lex.specs.Lexemes.{IsWithin, lexeme_of, of_kind};
 ghost use Rattle.qasm_lex.specs.Symbols.{word_symbol, mark_symbol, symbol_of, param_of, symbol_in};
 ghost use Rattle.qasm_lex.specs.Angles.{IsBound, names_of};
 
@@ -100,22 +100,20 @@ pub fn symbol_in(text: &[u8], token: Token, bound: &[Bound]) -> Symbol
     requires bound { All (IsBound text.now) bound.now }
     ensures { result ≡ symbol_in (names_of text.now bound.now) (lexeme_of text.now token) }
 {
+    let bytes = &text[token.from as usize..token.to as usize];
     if token.kind == TokenKind::Word {
-        let name = &text[token.from as usize..token.to as usize];
-        if let Some(number) = param_of(text, bound, name) {
+        if let Some(number) = param_of(text, bound, bytes) {
             return Symbol::Param(number);
         }
     }
-    symbol_of(text, token)
+    symbol_of(token.kind, bytes)
 }
 
-/// What a token of the text stands for, where it names no parameter.
-pub fn symbol_of(text: &[u8], token: Token) -> Symbol
-    requires { IsWithin text.now token }
-    ensures { result ≡ symbol_of (lexeme_of text.now token) }
+/// What a token of this kind and these bytes stands for, where it names no parameter.
+pub fn symbol_of(kind: TokenKind, bytes: &[u8]) -> Symbol
+    ensures { result ≡ symbol_of (of_kind kind bytes.now) }
 {
-    let bytes = &text[token.from as usize..token.to as usize];
-    match token.kind {
+    match kind {
         TokenKind::Word => word_symbol(bytes),
         TokenKind::Whole => Symbol::Whole(narrow_number(bytes)),
         TokenKind::Real => Symbol::Real,

@@ -1,5 +1,6 @@
 -- Calls of built-in gates that are on different arguments, as many as each asks for.
-use Rattle.std.specs.Prelude.{◌≡◌, ◌≢◌, ◌<◌, ℕ, List, [], length, All, AllPairs, Some, Ok, Err}
+use Rattle.std.specs.Prelude.{◌≡◌, ◌≢◌, ◌<◌, ℕ, List, [], length, All, AllPairs, Some, Ok, Err, pos, ◌≤ℤ◌}
+use Rattle.std.specs.List.{AllByRecursion}
 use Rattle.qasm_lex.specs.declared.value.Value.{Value}
 use Rattle.qasm_gates.specs.Gates.{Item, builtin, arity, Basic, Meaning, Named}
 use Rattle.qasm_gates.specs.Private.Counts.{items_done}
@@ -17,6 +18,23 @@ AreProper n basics = All (IsProper n) basics
 -- what the gate means is proper
 abbrev pub IsGood : Named → Type 0
 IsGood g = (vs : List Value) (basics : List Basic) → g.means vs ≡ Ok basics → AreProper g.arity basics
+
+-- both fractions of a value have positive denominators
+abbrev pub IsPositive : Value → Type 0
+IsPositive v = (pos 1 ≤ℤ v.u.den) × (pos 1 ≤ℤ v.v.den)
+
+-- the angles of a call have positive denominators
+abbrev pub HasPositive : Basic → Type 0
+HasPositive c = AllByRecursion (λ q. pos 1 ≤ℤ q.den) c.angles
+
+-- for values with positive denominators the gate means calls with such angles
+abbrev pub GivesPositive : Named → Type 0
+GivesPositive g = (vs : List Value) (basics : List Basic) → AllByRecursion IsPositive vs → g.means vs ≡ Ok basics → AllByRecursion HasPositive basics
+
+-- what the gate means is proper, with positive denominators
+pub record IsSound (g : Named) : Type 0 where
+  pub good : IsGood g
+  pub positive : GivesPositive g
 
 -- n different qubits below 64
 pub record AreQubits (n : ℕ) (on : List ℕ) : Type 0 where
