@@ -28,6 +28,7 @@ pub mod Starting
 pub mod Starts
 pub mod StepCalls
 pub mod TurnLemmas
+pub mod Units
 pub mod Variables
 pub mod Walking
 pub mod Wanted

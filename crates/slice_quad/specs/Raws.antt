@@ -100,6 +100,14 @@ pub record IsFlip (t : Target) : Type 0 where
   pub high_low : t.high_low ≡ Omega 0
   pub high_high : t.high_high ≡ Zero
 
+-- the unit matrix
+pub record IsUnit (t : Target) : Type 0 where
+  pub rooted : t.rooted ≡ false
+  pub low_low : t.low_low ≡ Omega 0
+  pub low_high : t.low_high ≡ Zero
+  pub high_low : t.high_low ≡ Zero
+  pub high_high : t.high_high ≡ Omega 0
+
 -- what a flip of the target takes
 pub record IsFlippable (d : Diagram) (g : Gate) (q : Four) : Type 0 where
   pub nodes : AreItsNodes d g

@@ -8,7 +8,7 @@ ghost use Rattle.diagram_ops.specs.Made.{StopIs};
 ghost use Rattle.slice_vec.specs.Growing.{Grows, Denotes};
 ghost use Rattle.slice_quad.specs.Fours.{mix_of, AreItsNodes};
 ghost use Rattle.slice_quad.specs.Column.{by_target, where_negated, where_signed};
-ghost use Rattle.slice_quad.specs.Raws.{IsFlip};
+ghost use Rattle.slice_quad.specs.Raws.{IsFlip, IsUnit};
 ghost use Rattle.slice_quad.specs.Turning.{IsTurning};
 
 use crate::nodes::BOTH;
@@ -64,6 +64,17 @@ impl Target {
             && is_one(self.low_high)
             && is_one(self.high_low)
             && is_zero(self.high_high)
+    }
+
+    /// Whether the matrix is the unit matrix.
+    pub fn is_unit(self) -> bool
+        ensures { IsTrue result → IsUnit self }
+    {
+        !self.rooted
+            && is_one(self.low_low)
+            && is_zero(self.low_high)
+            && is_zero(self.high_low)
+            && is_one(self.high_high)
     }
 
     /// The power of ω, not the 0th, that stands beside 1 on the diagonal, if the matrix is such a one.

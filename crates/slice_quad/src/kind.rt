@@ -1,6 +1,7 @@
 //! What a step does.
-ghost use Rattle.std.specs.Prelude.{◌≡◌};
-ghost use Rattle.slice_quad.specs.Stepping.{half_of, target_with};
+ghost use Rattle.std.specs.Prelude.{◌≡◌, IsTrue};
+ghost use Rattle.slice_quad.specs.Mix.{Vector};
+ghost use Rattle.slice_quad.specs.Stepping.{half_of, stepped, target_with};
 
 use crate::gate::Target;
 use bit_lists::Bits;
@@ -34,6 +35,22 @@ impl Step {
         match self {
             Step::Mix { half, .. } => *half,
             Step::Exchange { .. } => 0,
+        }
+    }
+
+    /// Whether its matrix is the unit matrix, whatever the controls.
+    pub fn is_unit(&self) -> bool
+        ensures unit { IsTrue result → (v : Vector) → stepped self.now v ≡ v }
+        ensures half { IsTrue result → half_of self.now ≡ 0 }
+    {
+        match self {
+            Step::Mix {
+                controls,
+                target,
+                rows,
+                half,
+            } => *half == 0 && target_of(*controls, *target, *rows, *half).is_unit(),
+            Step::Exchange { .. } => false,
         }
     }
 }

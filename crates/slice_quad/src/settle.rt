@@ -46,7 +46,7 @@ fn are_even(f: &Four) -> bool
 }
 
 /// Whether two roots are left, and all four are even.
-fn goes_on(f: &Four, roots: u32) -> bool
+pub fn goes_on(f: &Four, roots: u32) -> bool
     requires some { HasBits f.now }
     ensures roots { IsTrue result → 2 ≤ roots }
     ensures even { (d : Diagram) → IsSound d → ((z : Coord) → StandsIn d (nodes_of f.now z)) → IsTrue result → (z : Coord) → AreEven d (nodes_of f.now z) }

@@ -1,5 +1,5 @@
 //! One step on a vector or a matrix.
-ghost use Rattle.std.specs.Prelude.{◌≡◌, ◌+◌, ◌<◌, ◌≤◌, ◌^◌, IfOk, IfErr, OnOk, OnErr, length};
+ghost use Rattle.std.specs.Prelude.{◌≡◌, ◌+◌, ◌<◌, ◌≤◌, ◌^◌, IfOk, IfErr, OnOk, OnErr, IsTrue, length};
 ghost use Rattle.diagram_model.specs.Stores.{Diagram, IsSound};
 ghost use Rattle.diagram_ops.specs.Diagrams.{IsConsistent};
 ghost use Rattle.diagram_ops.specs.Made.{StopIs};
@@ -16,7 +16,7 @@ use crate::four::Four;
 use crate::kind::{Step, target_of};
 use crate::quad::SliceQuad;
 use crate::raw::mix_raw;
-use crate::settle::settle;
+use crate::settle::{goes_on, settle};
 use crate::stop::QuadStop;
 use crate::widths::{evened, trim_four, widest_of};
 use diagram_ops::Diagrams;
@@ -82,6 +82,22 @@ fn settled(raw: Four, exponent: u32, kept: Node, width: u8) -> Result<SliceQuad,
     })
 }
 
+/// Whether a step leaves a vector as it is: its matrix is the unit matrix, each coefficient has room in the width, and no
+/// factor of 2 is to be taken out.
+fn is_idle(q: &SliceQuad, s: &Step, width: u8) -> bool
+    ensures settled { IsTrue result → (d : Diagram) → IsSound d → Stands d q.now → IsSettled d (stepped s.now (vector_in d q.now.four)) (q.now.exponent + half_of s.now) q.now.four q.now.exponent }
+    ensures fits { IsTrue result → (d : Diagram) → Stands d q.now → FitsWidth width (stepped s.now (vector_in d q.now.four)) }
+    ensures narrow { IsTrue result → length q.now.four.a ≤ width }
+{
+    if !s.is_unit() {
+        return false;
+    }
+    if q.four.a.width() > usize::from(width) {
+        return false;
+    }
+    !goes_on(&q.four, q.exponent)
+}
+
 /// Applies a step: its matrix times the vector, which is raw, and then the factors of 2 that all entries share
 /// taken out, each for two roots, while two roots are left.
 ///
@@ -92,7 +108,8 @@ fn settled(raw: Four, exponent: u32, kept: Node, width: u8) -> Result<SliceQuad,
 ///
 /// The cost is that of the connectives: for each bit of each coordinate one walk for X, one to four connectives for a
 /// diagonal matrix, two cofactors and up to nine connectives for any other matrix, and two cofactors and four choices
-/// for an exchange. A coordinate that is 0 costs next to nothing. No node is freed.
+/// for an exchange. A coordinate that is 0 costs next to nothing. The unit matrix, on a vector that fits and has no factor of 2
+/// to be taken out, makes no node and takes no memory. No node is freed.
 pub fn step(d: &mut Diagrams, q: &mut SliceQuad, s: &Step, width: u8) -> Result<(), QuadStop>
     requires stands { Stands d.old.store q.old }
     requires on { IsStepOn (length d.old.store.order) s.now }
@@ -142,6 +159,9 @@ fn step_counted<L: Ledger>(
     ensures grows { Grows d.old (IsWork d.old.store s.now q.old) d.new }
 {
     let _cached = d.cached();
+    if is_idle(q, s, width) {
+        return Ok(());
+    }
     let mut steps = Steps::<L>::new(blank);
     let exponent = q.exponent + u32::from(s.half());
     let raw = raw_step(d, &q.four, s, &mut steps)?;
