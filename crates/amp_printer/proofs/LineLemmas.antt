@@ -1,5 +1,5 @@
 -- Lines of states, and bits written over others from the last one back.
-use Rattle.std.proofs.Common.{◌≡◌, ℕ, ◌+◌, ◌-◌, ◌*◌, ◌/◌, ◌%◌, ◌<◌, ◌≤◌, ◌≢◌, zero, suc, List, [], ◌∷◌, ◌++◌, Bool, true, false, length, get_or, set, take, drop, codes, ap, sym, ◌∙◌, subst, arith, append_assoc, append-nil, length-append}
+use Rattle.std.proofs.Common.{◌≡◌, ℕ, ◌+◌, ◌-◌, ◌*◌, ◌/◌, ◌%◌, ◌<◌, ◌≤◌, ◌≢◌, zero, suc, List, [], ◌∷◌, ◌++◌, Bool, true, false, length, get_or, set, take, drop, codes, ap, sym, ◌∙◌, arith, append_assoc, append-nil, length-append}
 use Rattle.std.proofs.lemmas.List.{length-map, length-take-le, take-append-drop, take_more, drop_more, take_all, drop_all, map-append, set_at, take_at}
 use Rattle.ring_omega.specs.declared.quad.Quad.{Quad}
 use Rattle.bit_lists.specs.Lists.{bit_value, place_of, bits_text}

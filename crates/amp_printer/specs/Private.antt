@@ -1,5 +1,5 @@
 -- Words that only the clauses of private functions cite.
-use Rattle.std.specs.Prelude.{◌≡◌, ◌≤◌, ℕ, Bool, List, ◌++◌, length, codes}
+use Rattle.std.specs.Prelude.{ℕ, Bool, List, ◌++◌, codes}
 use Rattle.bit_lists.specs.Lists.{bits_text}
 use Rattle.amp_printer.specs.Texts.{lowest_line}
 use Rattle.amp_printer.specs.declared.listing.Shown.{Shown}

@@ -13,6 +13,7 @@ pub enum Counted {
     Outcomes,
     Gates,
     Exponent,
+    Shots,
 }
 
 impl Counted {
@@ -27,6 +28,7 @@ impl Counted {
             Counted::Outcomes => "outcomes",
             Counted::Gates => "gates",
             Counted::Exponent => "exponent",
+            Counted::Shots => "shots",
         }
     }
 }

@@ -12,5 +12,5 @@ pub use counted::{Counted, count_line};
 pub use entry::{entry_text, state_line};
 pub use line::Line;
 pub use listing::ListingLine;
-pub use outcome::weight_line;
+pub use outcome::{fidelity_line, outcome_line, weight_line};
 pub use verdict::{Verdict, verdict_text};

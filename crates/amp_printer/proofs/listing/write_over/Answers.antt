@@ -1,7 +1,7 @@
-use Rattle.std.proofs.Common.{◌≡◌, ◌<◌, ℕ, List, ap, ◌∙◌, length, arith}
+use Rattle.std.proofs.Common.{ℕ, ap, ◌∙◌, length, arith}
 use Rattle.ring_omega.specs.declared.quad.Quad.{Quad}
 use Rattle.ring_omega.specs.Lowest.{lowest_form}
-use Rattle.amp_printer.specs.Texts.{state_line, lowest_line}
+use Rattle.amp_printer.specs.Texts.{lowest_line}
 use Rattle.amp_printer.proofs.LineLemmas.{state_longer, bits_changed}
 use Rattle.amp_printer.proofs.listing.write_over.Goals as goal
 
