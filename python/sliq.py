@@ -20,8 +20,8 @@ import tempfile
 from fractions import Fraction
 from pathlib import Path
 
-# The program that is called; by default the script at the top of the repository, which builds it where needed.
-PROGRAM = Path(__file__).resolve().parent.parent / "sliq"
+# The program that is called: what the variable SLIQ of the environment names, or the script at the top of the repository, which builds it where needed.
+PROGRAM = os.environ.get("SLIQ") or Path(__file__).resolve().parent.parent / "sliq"
 
 
 # ---- exact numbers

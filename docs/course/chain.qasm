@@ -1,0 +1,37 @@
+// A chain of thirty biased coins h t h: each is tossed only where the one before shows 1, and otherwise stays at 0.
+// It reaches its end, all coins at 1, with probability ((2-sqrt(2))/4)^30, which is about 10^-25.
+OPENQASM 2.0;
+include "qelib1.inc";
+qreg q[30];
+creg c[1];
+h q[0]; t q[0]; h q[0];
+ch q[0],q[1]; t q[1]; ch q[0],q[1];
+ch q[1],q[2]; t q[2]; ch q[1],q[2];
+ch q[2],q[3]; t q[3]; ch q[2],q[3];
+ch q[3],q[4]; t q[4]; ch q[3],q[4];
+ch q[4],q[5]; t q[5]; ch q[4],q[5];
+ch q[5],q[6]; t q[6]; ch q[5],q[6];
+ch q[6],q[7]; t q[7]; ch q[6],q[7];
+ch q[7],q[8]; t q[8]; ch q[7],q[8];
+ch q[8],q[9]; t q[9]; ch q[8],q[9];
+ch q[9],q[10]; t q[10]; ch q[9],q[10];
+ch q[10],q[11]; t q[11]; ch q[10],q[11];
+ch q[11],q[12]; t q[12]; ch q[11],q[12];
+ch q[12],q[13]; t q[13]; ch q[12],q[13];
+ch q[13],q[14]; t q[14]; ch q[13],q[14];
+ch q[14],q[15]; t q[15]; ch q[14],q[15];
+ch q[15],q[16]; t q[16]; ch q[15],q[16];
+ch q[16],q[17]; t q[17]; ch q[16],q[17];
+ch q[17],q[18]; t q[18]; ch q[17],q[18];
+ch q[18],q[19]; t q[19]; ch q[18],q[19];
+ch q[19],q[20]; t q[20]; ch q[19],q[20];
+ch q[20],q[21]; t q[21]; ch q[20],q[21];
+ch q[21],q[22]; t q[22]; ch q[21],q[22];
+ch q[22],q[23]; t q[23]; ch q[22],q[23];
+ch q[23],q[24]; t q[24]; ch q[23],q[24];
+ch q[24],q[25]; t q[25]; ch q[24],q[25];
+ch q[25],q[26]; t q[26]; ch q[25],q[26];
+ch q[26],q[27]; t q[27]; ch q[26],q[27];
+ch q[27],q[28]; t q[28]; ch q[27],q[28];
+ch q[28],q[29]; t q[29]; ch q[28],q[29];
+measure q[29] -> c[0];
