@@ -1,0 +1,7 @@
+//! Tests of snapshots, through public calls.
+#![tactic(auto)]
+
+#[cfg(test)]
+mod saving_tests;
+#[cfg(test)]
+mod tools;
