@@ -45,6 +45,10 @@ sliq|demo|1|0|0 => demo 1 0 0 128 1048576 65536 16 0
 sliq|demo|64|500000|18446744073709551615 => demo 64 500000 18446744073709551615 128 1048576 65536 16 0
 sliq|sim|a|--width|00000000000000000128 => sim [a] 128 1048576 65536 16 0
 sliq|demo|01|002|0003 => demo 1 2 3 128 1048576 65536 16 0
+sliq|sample|a|3|4 => sample 3 4 [a] 128 1048576 65536 16 0
+sliq|sample|--sift=1|a|--|000|18446744073709551615 => sample 0 18446744073709551615 [a] 128 1048576 65536 16 1
+sliq|sample|1|1000000|2 => sample 1000000 2 [1] 128 1048576 65536 16 0
+sliq|fidelity|b|a|--width|9 => fidelity [b] [a] 9 1048576 65536 16 0
 sliq|sim|a|--input= => sim  [a] 128 1048576 65536 16 0
 sliq|sim|a|--input| => sim  [a] 128 1048576 65536 16 0
 sliq|sim|a|--input|1 => sim 1 [a] 128 1048576 65536 16 0
@@ -106,6 +110,14 @@ sliq|sim|a|--width|\u{ff18} => a digit that isn't ASCII
 sliq|sim|a|--input|012 => a digit that is no bit
 sliq|sim|a|--input|00000000000000000000000000000000000000000000000000000000000000000 => 65 bits
 sliq|sim|a|--input|0 1 => a blank between bits
+sliq|sample|a|1 => the seed missing
+sliq|sample|a|1|2|3 => a number too many behind a file
+sliq|sample|a|b|1 => a file's name in place of a number
+sliq|sample|a|1000001|0 => too many shots
+sliq|sample|a|1|18446744073709551616 => a seed past 64 bits
+sliq|sample|a|1|0|--input=0 => an input for shots
+sliq|fidelity|a => one circuit to be compared
+sliq|fidelity|a|b|c => three of them
 sliq|demo|0|1|1 => no qubits
 sliq|demo|65|1|1 => too many qubits
 sliq|demo|1|500001|1 => too many gates
@@ -153,6 +165,8 @@ fn task_text(alloc: Global, task: &Task) -> Result<String, OutOfMemory> {
             gates,
             seed,
         } => Ok(format!(in alloc; "demo {qubits} {gates} {seed}")?),
+        Task::Sample { shots, seed } => Ok(format!(in alloc; "sample {shots} {seed}")?),
+        Task::Fidelity => Ok(String::from_str(alloc, "fidelity")?),
     }
 }
 
