@@ -1,5 +1,5 @@
 -- How the commands end that first weigh all states, `prob` and `sample`, exit by exit.
-use Rattle.std.proofs.Common.{◌≡◌, ◌⊎◌, inl, inr, ℕ, ◌≤◌, ◌^◌, pos, ◌≤ℤ◌, ◌<ℤ◌, ℤ, List, Bool, Option, Ok, refl, ◌∙◌, subst, ap, arith}
+use Rattle.std.proofs.Common.{◌≡◌, ◌⊎◌, inl, inr, ℕ, ◌≤◌, pos, ◌≤ℤ◌, ◌<ℤ◌, ℤ, List, Bool, Option, Ok, refl, ◌∙◌, subst, ap, arith}
 use Rattle.std.proofs.lemmas.Int.{ints}
 use Rattle.gate_set.specs.Circuits.{Circuit}
 use Rattle.ring_omega.specs.declared.quad.Quad.{Quad}
@@ -13,7 +13,7 @@ use Rattle.state_update.specs.Kept.{sliced_policy}
 use Rattle.probabilities.specs.Outcomes.{counted}
 use Rattle.outputs.specs.declared.output.SendStop.{SendStop}
 use Rattle.causes.specs.declared.cause.Cause.{Cause}
-use Rattle.causes.specs.declared.cause.Cause.TheVariants.{Done, OutOfMemory}
+use Rattle.causes.specs.declared.cause.Cause.TheVariants.{Done}
 use Rattle.causes.specs.Stops.{cause_of_sending}
 use Rattle.sliq_engine.specs.Steps.{Reads, zeros, Simulates, Output, Writes}
 use Rattle.sliq_engine.specs.Ending.{MayEnd, MayStopBy}

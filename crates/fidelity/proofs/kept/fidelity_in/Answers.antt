@@ -1,4 +1,4 @@
-use Rattle.std.proofs.Common.{◌≡◌, ◌+◌, ◌*◌, ◌/◌, ℕ, length, Result, Err, sym, ◌∙◌, ap, arith}
+use Rattle.std.proofs.Common.{◌≡◌, ◌*◌, ◌/◌, ℕ, length, Result, Err, sym, ◌∙◌, ap, arith}
 use Rattle.diagram_ops.specs.Diagrams.{StoreAndCache}
 use Rattle.fidelity.specs.declared.tracing.TraceStop.{TraceStop}
 use Rattle.fidelity.specs.declared.tracing.TraceStop.TheVariants.{TooWide}

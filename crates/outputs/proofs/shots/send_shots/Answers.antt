@@ -1,4 +1,4 @@
-use Rattle.std.proofs.Common.{◌++◌, ℕ}
+use Rattle.std.proofs.Common.{◌++◌}
 use Rattle.amp_dense.specs.Standing.{vector}
 use Rattle.amp_printer.specs.declared.counted.Counted.TheVariants.{Shots}
 use Rattle.amp_printer.specs.Texts.{count_line}

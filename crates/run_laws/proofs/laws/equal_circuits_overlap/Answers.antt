@@ -2,7 +2,6 @@ use Rattle.std.proofs.Common.{◌≡◌, ◌∙◌, ℕ, List, pos, codes, All, 
 use Rattle.std.specs.Fmt.{digits}
 use Rattle.ring_omega.specs.declared.weight.Weight.{Weight}
 use Rattle.ring_omega.specs.Weights.{weight}
-use Rattle.gate_set.specs.Circuits.{IsCircuit}
 use Rattle.gate_set.specs.Shape.{IsOn}
 use Rattle.amp_printer.specs.Texts.{weight_line, fidelity_text}
 use Rattle.fidelity.proofs.Equals.{fidelity_of_equals}

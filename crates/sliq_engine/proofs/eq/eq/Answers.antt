@@ -12,7 +12,7 @@ use Rattle.causes.specs.declared.cause.Cause.{Cause}
 use Rattle.causes.specs.declared.cause.Cause.TheVariants.{Done}
 use Rattle.sliq_engine.specs.Steps.{SameQubits}
 use Rattle.causes.specs.Stops.{cause_of, cause_of_sending}
-use Rattle.sliq_engine.specs.Eq.{Compares, Says}
+use Rattle.sliq_engine.specs.Eq.{Says}
 use Rattle.sliq_engine.specs.Ending.{MayEnd, MayStopBy}
 use Rattle.sliq_engine.proofs.PairExits.{same_numbers, pair_refused, pair_refused_second, pair_unlike, pair_halts, pair_ends}
 use Rattle.sliq_engine.proofs.EqExits.{says_stops, says_done, says_differs}

@@ -1,5 +1,4 @@
-use Rattle.std.proofs.Common.{rules, ◌≡◌, ◌<◌, ◌^◌, pos, ◌<ℤ◌, ℕ, Bool, List, Err, Ok, length, replicate, false, sym, ◌∙◌, ap, subst, arith, map}
-use Rattle.std.proofs.lemmas.Int.{ints}
+use Rattle.std.proofs.Common.{rules, ◌≡◌, ◌<◌, ◌^◌, pos, ◌<ℤ◌, ℕ, Bool, List, Err, Ok, length, false, sym, ◌∙◌, ap, subst}
 use Rattle.std.proofs.lemmas.List.{length-replicate, length-map}
 use Rattle.std.proofs.lemmas.Result.{err_from_is_err_and}
 use Rattle.gate_set.specs.Circuits.{Circuit}
@@ -12,7 +11,6 @@ use Rattle.outputs.specs.declared.output.SendStop.{SendStop}
 use Rattle.causes.specs.declared.cause.Cause.{Cause}
 use Rattle.sliq_engine.specs.Steps.{zeros, Simulates}
 use Rattle.sliq_engine.specs.Ending.{MayStopBy}
-use Rattle.causes.specs.Stops.{cause_of_sending}
 use Rattle.causes.specs.declared.cause.Cause.TheVariants.{SampleTooWide}
 use Rattle.sampler.specs.Words.{random_word}
 use Rattle.outputs.specs.Shots.{shots_output}
