@@ -8,6 +8,10 @@
     (1,0)/2^1
     >>> sliq.equivalent("OPENQASM 2.0; qreg q[1]; x q; z q;", "OPENQASM 2.0; qreg q[1]; z q; x q;").scalar
     Amplitude(0, 0, 0, -1, power=0)
+    >>> sliq.sample(bell, shots=6, seed=1)
+    ['00', '11', '00', '00', '11', '00']
+    >>> print(sliq.fidelity("OPENQASM 2.0; qreg q[1]; t q;", "OPENQASM 2.0; qreg q[1];"))
+    (2,1)/2^2
 
 A circuit is a text (str) or a file (pathlib.Path). No number is rounded: amplitudes and probabilities are classes of their own, which `complex` and `float` turn into
 the nearest Python number. This file needs the built program and Python's standard library alone.
@@ -251,7 +255,7 @@ class QubitsDiffer(SliqError):
 
 
 class Limit(SliqError):
-    """A limit was met: `step` is the gate or step at which, or None where the probabilities were too wide. For nodes `held` and `order` are told too."""
+    """A limit was met: `step` is the gate or step at which, or None where weights or a matrix were too wide. For nodes `held` and `order` are told too."""
 
     def __init__(self, status, told, step=None, held=None, order=None):
         super().__init__(status, told)
@@ -272,7 +276,7 @@ def _error(status, told):
     found = re.fullmatch(r"sliq: node limit at step (\d+), held (\d+), order ([\d ]*)", line)
     if found:
         return Limit(status, line, int(found[1]), int(found[2]), [int(place) for place in found[3].split()])
-    if line == "sliq: weight too wide":
+    if line in ("sliq: weight too wide", "sliq: sample too wide", "sliq: fidelity too wide"):
         return Limit(status, line)
     return SliqError(status, line)
 
@@ -299,11 +303,11 @@ def _run(command, options, words, text=None):
     return done.stdout.decode().splitlines(), done.returncode == 0
 
 
-def _run_on(command, options, circuit):
-    """The lines that a command writes on one circuit."""
+def _run_on(command, options, circuit, *words):
+    """The lines that a command writes on one circuit, with further words behind its name."""
     if _is_file(circuit):
-        return _run(command, options, ["--", os.path.abspath(circuit)])[0]
-    return _run(command, options, ["-"], circuit)[0]
+        return _run(command, options, ["--", os.path.abspath(circuit), *words])[0]
+    return _run(command, options, ["-", *words], circuit)[0]
 
 
 def simulate(circuit, input=None, *, width=None, nodes=None, cache=None, reclaim=None, sift=None):
@@ -320,9 +324,8 @@ def probabilities(circuit, *, width=None, nodes=None, cache=None, reclaim=None, 
     return Outcomes(int(lines[0].split(" ")[1]), ((bits, Probability.read(number)) for bits, number in pairs))
 
 
-def equivalent(one, two, *, width=None, nodes=None, cache=None, reclaim=None, sift=None):
-    """Whether two circuits are the same up to a scalar: a Verdict."""
-    options = dict(width=width, nodes=nodes, cache=cache, reclaim=reclaim, sift=sift)
+def _run_on_two(command, options, one, two):
+    """The lines that a command writes on two circuits, and whether the status is 0."""
     with tempfile.TemporaryDirectory() as folder:
         files = []
         for number, circuit in enumerate((one, two), 1):
@@ -330,8 +333,25 @@ def equivalent(one, two, *, width=None, nodes=None, cache=None, reclaim=None, si
                 text, circuit = circuit, Path(folder, "%d.qasm" % number)
                 circuit.write_bytes(text.encode())
             files.append(os.path.abspath(circuit))
-        lines, same = _run("eq", options, ["--", *files])
+        return _run(command, options, ["--", *files])
+
+
+def equivalent(one, two, *, width=None, nodes=None, cache=None, reclaim=None, sift=None):
+    """Whether two circuits are the same up to a scalar: a Verdict."""
+    lines, same = _run_on_two("eq", dict(width=width, nodes=nodes, cache=cache, reclaim=reclaim, sift=sift), one, two)
     if same:
         return Verdict(scalar=Amplitude.read(lines[1].split(" ")[1]))
     _, row, _, column = lines[1].split(" ")
     return Verdict(row=row, column=column, value=Amplitude.read(lines[2].split(" ")[1]), corner=Amplitude.read(lines[3].split(" ")[1]))
+
+
+def sample(circuit, shots, seed, *, width=None, nodes=None, cache=None, reclaim=None, sift=None):
+    """Outcomes of the measured qubits, or of all where none is measured, that are drawn by random words: a list of `shots` texts of bits, which `seed` decides."""
+    options = dict(width=width, nodes=nodes, cache=cache, reclaim=reclaim, sift=sift)
+    return _run_on("sample", options, circuit, str(shots), str(seed))[:-1]
+
+
+def fidelity(one, two, *, width=None, nodes=None, cache=None, reclaim=None, sift=None):
+    """|tr(U*V^-1)|^2 / 4^n for two circuits U and V on n qubits, as a Probability: 1 where they are the same up to a scalar."""
+    lines, _ = _run_on_two("fidelity", dict(width=width, nodes=nodes, cache=cache, reclaim=reclaim, sift=sift), one, two)
+    return Probability.read(lines[0].split(" ")[1])

@@ -100,6 +100,24 @@ class Commands(unittest.TestCase):
         self.assertTrue(sliq.equivalent(TOP / "examples" / "toffoli.qasm", TOP / "examples" / "toffoli_gate.qasm"))
 
 
+    def test_sample(self):
+        self.assertEqual(sliq.sample(COIN, 8, 7), list("01000000"))
+        self.assertEqual(sliq.sample(COIN, 8, 2**64 - 1), list("00010000"))
+        self.assertEqual(sliq.sample(BELL, shots=0, seed=0), [])
+        self.assertEqual(sliq.sample("OPENQASM 2.0;", 2, 0), ["", ""])
+        # a shorter run is a front of a longer one, and no impossible outcome is drawn
+        shots = sliq.sample(TOP / "examples" / "bell.qasm", 100, 1, sift=1)
+        self.assertEqual(shots[:6], ["00", "11", "00", "00", "11", "00"])
+        self.assertEqual(set(shots), set(sliq.probabilities(BELL)))
+
+    def test_fidelity(self):
+        empty = "OPENQASM 2.0; qreg q[1];"
+        self.assertEqual(sliq.fidelity(COIN, COIN), 1)
+        self.assertEqual(sliq.fidelity("OPENQASM 2.0; qreg q[1]; x q;", empty), 0)
+        self.assertEqual(sliq.fidelity("OPENQASM 2.0; qreg q[1]; t q;", empty), Probability(2, 1, 2))
+        self.assertEqual(sliq.fidelity(TOP / "examples" / "toffoli.qasm", TOP / "examples" / "toffoli_wrong.qasm"), Fraction(1, 2))
+
+
 class Causes(unittest.TestCase):
     def test_refusals(self):
         with self.assertRaises(sliq.Refused) as caught:
@@ -130,6 +148,12 @@ class Causes(unittest.TestCase):
         self.assertEqual(len(sliq.probabilities(TOP / "examples" / "halves.qasm", nodes=1000, sift=4)), 2)
         with self.assertRaises(sliq.Limit) as caught:
             sliq.probabilities("OPENQASM 2.0; qreg q[1]; h q; " + "t q; h q; " * 250)
+        self.assertIsNone(caught.exception.step)
+        with self.assertRaises(sliq.Limit) as caught:
+            sliq.sample("OPENQASM 2.0; qreg q[1]; h q; " + "t q; h q; " * 118, 0, 0)
+        self.assertIsNone(caught.exception.step)
+        with self.assertRaises(sliq.Limit) as caught:
+            sliq.fidelity("OPENQASM 2.0; qreg q[62];", "OPENQASM 2.0; qreg q[62];")
         self.assertIsNone(caught.exception.step)
 
     def test_other_causes(self):

@@ -55,6 +55,11 @@ fn tell_task(task: &Task, page: &mut Page) {
             page.text("demo");
             page.show(&(*qubits, *gates, *seed));
         }
+        Task::Sample { shots, seed } => {
+            page.text("sample");
+            page.show(&(*shots, *seed));
+        }
+        Task::Fidelity => page.text("fidelity"),
     }
 }
 

@@ -31,6 +31,10 @@ pub enum Cause {
     Nodes { step: u32, order: Order, held: u32 },
     /// The weight of all states has a part without √2 of 2^127 or more.
     WeightTooWide,
+    /// The weight of all states has a part without √2 of 2^60 or more, so that no sample is drawn.
+    SampleTooWide,
+    /// The number of qubits and the width of the matrix of a comparison are together more than 63, so that its trace isn't taken.
+    FidelityTooWide,
     /// The output could not be written whole.
     WriteFault,
     /// Memory was wanted and refused.
@@ -54,7 +58,8 @@ impl Cause {
             Cause::BadWords => 2,
             Cause::ReadFault => 3,
             Cause::TooLong { .. } | Cause::Refused { .. } | Cause::QubitsDiffer { .. } => 4,
-            Cause::Width { .. } | Cause::Nodes { .. } | Cause::WeightTooWide => 5,
+            Cause::Width { .. } | Cause::Nodes { .. } => 5,
+            Cause::WeightTooWide | Cause::SampleTooWide | Cause::FidelityTooWide => 5,
             Cause::WriteFault => 6,
             Cause::OutOfMemory => 7,
         }

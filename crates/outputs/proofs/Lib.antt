@@ -2,3 +2,4 @@ pub mod ListingLemmas
 mod WalkLemmas
 mod FoundLemmas
 mod SummaryLemmas
+mod ShotLemmas

@@ -1,3 +1,4 @@
 pub mod Listing
 pub mod Outcomes
+pub mod Shots
 pub mod Summary

@@ -52,6 +52,10 @@ calm_command task.Eq rules texts =
     calm_after _ _ (calm_reads 1 _) (λ u. calm_after _ _ (calm_reads 2 _) (λ v. calm_after _ _ (calm_qubits _ _) (λ w. calm_after _ _ (λ h. no_fault h.0 h.2) (λ s. λ h. let e = h.2 in cc))))
 calm_command (task.Demo qubits gates seed) rules texts =
     calm_after _ _ (calm_reads 1 _) (λ c. calm_after _ _ (λ h. no_fault h.0 h.2) (λ s. calm_hands _))
+calm_command (task.Sample shots seed) rules texts =
+    calm_after _ _ (calm_reads 1 _) (λ c. calm_after _ _ (λ h. no_fault h.0 h.2) (λ s. calm_after _ _ (λ h. let e = h.1 in cc) (λ u. calm_hands _)))
+calm_command task.Fidelity rules texts =
+    calm_after _ _ (calm_reads 1 _) (λ u. calm_after _ _ (calm_reads 2 _) (λ v. calm_after _ _ (calm_qubits _ _) (λ w. calm_after _ _ (λ h. no_fault h.0 h.2) (λ s. calm_after _ _ (λ h. let e = h.1 in cc) (λ t. calm_hands _)))))
 
 module _ {S : Type 0} (shelf : Shelf S) (none : (s : S) (name : List ℕ) → shelf.faults s name ≡ 0) where
   calm_file : (file : ℕ) (name : List ℕ) (old new : S) → Calm (TakesFile shelf file name old new)

@@ -1,8 +1,8 @@
 -- What each command keeps: a term along its chain.
-use Rattle.std.proofs.Common.{◌≡◌, ◌↔◌, ℕ, ◌+◌, ◌*◌, ◌≤◌, Bool, List, [], ◌∷◌, length, get_or, Option, Result, Ok, Err, ◌∙◌, refl, sym, ap, subst, arith}
+use Rattle.std.proofs.Common.{◌≡◌, ◌↔◌, ℕ, ◌+◌, ◌*◌, ◌^◌, ◌≤◌, Bool, List, [], ◌∷◌, length, get_or, Option, Result, Ok, Err, ◌∙◌, refl, sym, ap, subst, arith}
 use Rattle.gate_set.specs.Circuits.{Circuit}
 use Rattle.circuit_model.specs.Working.{work, AllFit}
-use Rattle.comparison.specs.Products.{AllStepsFit}
+use Rattle.comparison.specs.Products.{work_matrix, AllStepsFit}
 use Rattle.comparison.specs.Steps.{steps_of}
 use Rattle.phases.specs.Phases.{StopsWhere, Told}
 use Rattle.amp_dense.specs.Rules.{Settings}
@@ -12,11 +12,13 @@ use Rattle.state_update.specs.Kept.{sliced_policy}
 use Rattle.unitary_update.specs.Kept.{Standing, Multiplies}
 use Rattle.probabilities.specs.Weighing.{total_weight}
 use Rattle.qasm_reader.specs.Reading.{ReadsAs, circuit}
+use Rattle.fidelity.specs.Widths.{IsTooWide}
+use Rattle.fidelity.proofs.KeptMatrix.{too_wide_or_not}
 use Rattle.demo_text.specs.Generator.{demo_text}
 use Rattle.demo_reads.specs.Drawn.{drawn_circuit}
 use Rattle.demo_reads.proofs.Whole.{demo_is_read, demo_unrefused}
 use Rattle.causes.specs.declared.cause.Cause.{Cause}
-use Rattle.causes.specs.declared.cause.Cause.TheVariants.{Done, WeightTooWide, Refused}
+use Rattle.causes.specs.declared.cause.Cause.TheVariants.{Done, WeightTooWide, SampleTooWide, FidelityTooWide, Refused}
 use Rattle.causes.specs.Stops.{cause_of}
 use Rattle.sliq_words.specs.declared.reading.Task.{Task}
 use Rattle.sliq_words.specs.declared.reading.Task.TheVariants as task
@@ -25,8 +27,10 @@ use Rattle.sliq_engine.specs.Sim.{input_for, sim_output, Sims}
 use Rattle.sliq_engine.specs.Prob.{IsHeavy, prob_output, Weighs}
 use Rattle.sliq_engine.specs.Demo.{demo_output, Demonstrates}
 use Rattle.sliq_engine.specs.Eq.{Says, Compares}
+use Rattle.sliq_engine.specs.Sample.{IsTooHeavyToDraw, sample_output, Samples}
+use Rattle.sliq_engine.specs.Fidelity.{fidelity_output, Overlaps}
 use Rattle.sliq_engine.specs.Comes.{CarriesOut}
-use Rattle.sliq_engine.proofs.ProbExits.{heavy_or_not}
+use Rattle.sliq_engine.proofs.WeighedExits.{at_least_or_not}
 use Rattle.run_laws.specs.Laws.{IsSure, AreEnough, HasEnough, GatesHaveNodes, StepsHaveNodes, ComesTo}
 use Rattle.run_laws.proofs.Lawful.{IsLawful, StopsBy, by_both, by_handing_on, behind, hands_on, tests, handed_on, comes_to, from}
 use Rattle.run_laws.proofs.PhaseLaws.{read_same, as_read, read_on, as_zeros, same_number, reads, same_qubits, simulates, multiplies, says}
@@ -49,15 +53,23 @@ SimIsOrdered bits rules c = (c.qubits ≡ length (input_for bits c.qubits)) × A
 abbrev pub ProbIsOrdered : Settings → Circuit → Type 0
 ProbIsOrdered rules c = (¬ IsHeavy c.qubits (work c.gates (zeros c.qubits)).entries) × ArePassed rules zeros c
 
+abbrev pub SampleIsOrdered : Settings → Circuit → Type 0
+SampleIsOrdered rules c = (¬ IsTooHeavyToDraw c.qubits (work c.gates (zeros c.qubits)).entries) × ArePassed rules zeros c
+
 abbrev pub EqIsOrdered : Settings → Circuit → Circuit → Type 0
 EqIsOrdered rules u v =
     (u.qubits ≡ v.qubits) × AllStepsFit rules.width u.qubits (steps_of u.gates v.gates) × (3 * u.qubits ≤ rules.nodes) × StepsHaveNodes rules u.qubits (steps_of u.gates v.gates)
+
+abbrev pub FidelityIsOrdered : Settings → Circuit → Circuit → Type 0
+FidelityIsOrdered rules u v = (¬ IsTooWide u.qubits (work_matrix u.qubits (steps_of u.gates v.gates)).entries) × EqIsOrdered rules u v
 
 abbrev pub IsOrdered : Task → Settings → List (List ℕ) → Type 0
 IsOrdered (task.Sim bits) rules texts = ReadsWith (SimIsOrdered bits rules) (get_or texts 0 [])
 IsOrdered task.Prob rules texts = ReadsWith (ProbIsOrdered rules) (get_or texts 0 [])
 IsOrdered task.Eq rules texts = ReadsWith (λ u. ReadsWith (EqIsOrdered rules u) (get_or texts 1 [])) (get_or texts 0 [])
 IsOrdered (task.Demo qubits gates seed) rules texts = ReadsWith (ArePassed rules zeros) (demo_text qubits gates seed)
+IsOrdered (task.Sample shots seed) rules texts = ReadsWith (SampleIsOrdered rules) (get_or texts 0 [])
+IsOrdered task.Fidelity rules texts = ReadsWith (λ u. ReadsWith (FidelityIsOrdered rules u) (get_or texts 1 [])) (get_or texts 0 [])
 
 -- ---- the commands
 late : (k : ℕ) → k + 1 ≡ 0 → ⊥
@@ -91,7 +103,7 @@ module _ (rules : Settings) (texts : List (List ℕ)) where
       behind (reads 1 one (λ (fine : Fine task.Prob). fine.0))
       (λ c read. behind (simulates (λ k _ _. late k) (zeros c.qubits) c.gates (read_on one c (length (zeros c.qubits)) read (as_zeros c.qubits))
       (λ (fed : Fed task.Prob). subst (AreEnough rules) (as_zeros c.qubits) (fed c read)) (λ (fine : Fine task.Prob). (fine.1 c read).1))
-      (λ _ _. behind (tests (IsHeavy c.qubits (work c.gates (zeros c.qubits)).entries) WeightTooWide tt tt (heavy_or_not (total_weight c.qubits (work c.gates (zeros c.qubits)).entries).a)
+      (λ _ _. behind (tests (IsHeavy c.qubits (work c.gates (zeros c.qubits)).entries) WeightTooWide tt tt (at_least_or_not (2 ^ 127) (total_weight c.qubits (work c.gates (zeros c.qubits)).entries).a)
       (λ (fine : Fine task.Prob). (fine.1 c read).0))
       (λ _ _. hands_on _)))
 
@@ -114,16 +126,55 @@ module _ (rules : Settings) (texts : List (List ℕ)) where
       (λ (fine : Fine (task.Demo qubits gates seed)). fine.1 c read))
       (λ _ _. hands_on _))
 
+  sample_laws : (shots seed : ℕ)
+      → IsLawful (IsSure (task.Sample shots seed)) rules (Fed (task.Sample shots seed)) (Fine (task.Sample shots seed)) (Samples shots seed rules one)
+  sample_laws shots seed =
+      behind (reads 1 one (λ (fine : Fine (task.Sample shots seed)). fine.0))
+      (λ c read. behind (simulates (λ k _ _. late k) (zeros c.qubits) c.gates (read_on one c (length (zeros c.qubits)) read (as_zeros c.qubits))
+      (λ (fed : Fed (task.Sample shots seed)). subst (AreEnough rules) (as_zeros c.qubits) (fed c read)) (λ (fine : Fine (task.Sample shots seed)). (fine.1 c read).1))
+      (λ _ _. behind (tests (IsTooHeavyToDraw c.qubits (work c.gates (zeros c.qubits)).entries) SampleTooWide tt tt (at_least_or_not (2 ^ 60) (total_weight c.qubits (work c.gates (zeros c.qubits)).entries).a)
+      (λ (fine : Fine (task.Sample shots seed)). (fine.1 c read).0))
+      (λ _ _. hands_on _)))
+
+  fidelity_laws : IsLawful (IsSure task.Fidelity) rules (Fed task.Fidelity) (Fine task.Fidelity) (Overlaps rules one two)
+  fidelity_laws =
+      behind (reads 1 one (λ (fine : Fine task.Fidelity). fine.0))
+      (λ u first. behind (reads 2 two (λ (fine : Fine task.Fidelity). (fine.1 u first).0))
+      (λ v second. behind (same_qubits u.qubits v.qubits (λ (fine : Fine task.Fidelity). ((fine.1 u first).1 v second).1.0))
+      (λ _ other.
+      behind (multiplies (λ k _ _. late k) u v (read_on one u u.qubits first refl) (read_on two v u.qubits second (sym (same_number u.qubits v.qubits other))) (λ (fed : Fed task.Fidelity). fed u first)
+      (λ (fine : Fine task.Fidelity). let is = ((fine.1 u first).1 v second).1 in (is.1, is.2, is.3)))
+      (λ _ _. behind (tests (IsTooWide u.qubits (work_matrix u.qubits (steps_of u.gates v.gates)).entries) FidelityTooWide tt tt
+      (too_wide_or_not u.qubits (work_matrix u.qubits (steps_of u.gates v.gates)).entries) (λ (fine : Fine task.Fidelity). ((fine.1 u first).1 v second).0))
+      (λ _ _. hands_on _)))))
+
 pub laws_of : (it : Task) (rules : Settings) (texts : List (List ℕ)) → IsLawful (IsSure it) rules (HasEnough it rules texts) (IsOrdered it rules texts) (CarriesOut it rules texts)
 laws_of (task.Sim bits) rules texts = sim_laws rules texts bits
 laws_of task.Prob rules texts = prob_laws rules texts
 laws_of task.Eq rules texts = eq_laws rules texts
 laws_of (task.Demo qubits gates seed) rules texts = demo_laws rules texts qubits gates seed
+laws_of (task.Sample shots seed) rules texts = sample_laws rules texts shots seed
+laws_of task.Fidelity rules texts = fidelity_laws rules texts
 
 -- ---- their outputs
 -- the bytes of an output that ends as Done
 same_output : (o : Output) (bytes more : List ℕ) → (let r : Result Output Cause = Ok o in r) ≡ Ok (record { cause = Done; bytes = bytes }) → bytes ≡ more → o ≡ record { cause = Done; bytes = more }
 same_output o bytes more is same = let here : o ≡ record { cause = Done; bytes = bytes } = cc in here ∙ ap (λ (b : List ℕ). let p : Output = record { cause = Done; bytes = b } in p) same
+
+-- what `fidelity` writes is that of the circuits as which its texts read, which are on as many qubits
+pub fidelity_written : (rules : Settings) (one two : List ℕ) (u v : Circuit) → ReadsAs one 64 (circuit u) → ReadsAs two 64 (circuit v) → (o : Output) → Overlaps rules one two (Ok o)
+    → (u.qubits ≡ v.qubits) × (o ≡ record { cause = Done; bytes = fidelity_output u.qubits u.gates v.gates })
+fidelity_written rules one two u v first second o h =
+    let a = from (Reads 1 one) _ o h in
+    let b = from (Reads 2 two) _ o a.2 in
+    let s = from (SameQubits a.0.qubits b.0.qubits) _ o b.2 in
+    let m = from (Told cause_of (Multiplies rules a.0.qubits (steps_of a.0.gates b.0.gates))) _ o s.2 in
+    let w = from (StopsWhere (IsTooWide a.0.qubits (work_matrix a.0.qubits (steps_of a.0.gates b.0.gates)).entries) FidelityTooWide) _ o m.2 in
+    let one_read = read_same one a.0 u a.1 first in
+    let two_read = read_same two b.0 v b.1 second in (
+      sym (ap (λ (d : Circuit). d.qubits) one_read) ∙ same_number a.0.qubits b.0.qubits s.1 ∙ ap (λ (d : Circuit). d.qubits) two_read,
+      same_output o _ _ w.2 (ap (λ (d : Circuit). fidelity_output d.qubits d.gates b.0.gates) one_read ∙ ap (λ (d : Circuit). fidelity_output u.qubits u.gates d.gates) two_read),
+    )
 
 module _ (rules : Settings) (wide : 2 ≤ rules.width) where
   module _ (text : List ℕ) (c : Circuit) (read : ReadsAs text 64 (circuit c)) where
@@ -146,6 +197,16 @@ module _ (rules : Settings) (wide : 2 ≤ rules.width) where
             let s = from (Simulates sliced_policy rules (zeros a.0.qubits) a.0.gates) _ o a.2 in
             let w = from (StopsWhere (IsHeavy a.0.qubits (work a.0.gates (zeros a.0.qubits)).entries) WeightTooWide) _ o s.2 in
             same_output o _ _ w.2 (ap prob_output (read_same text a.0 c a.1 read))
+
+    pub sample_comes : (shots seed : ℕ) → SampleIsOrdered rules c → ComesTo (Samples shots seed rules text) (record { cause = Done; bytes = sample_output shots seed c })
+    sample_comes shots seed ordered = comes_to _ (laws_of (task.Sample shots seed) rules (text ∷ [])) wide (reads_with (SampleIsOrdered rules) text c read ordered) only
+      where
+        only : (o : Output) → Samples shots seed rules text (Ok o) → o ≡ record { cause = Done; bytes = sample_output shots seed c }
+        only o h =
+            let a = from (Reads 1 text) _ o h in
+            let s = from (Simulates sliced_policy rules (zeros a.0.qubits) a.0.gates) _ o a.2 in
+            let w = from (StopsWhere (IsTooHeavyToDraw a.0.qubits (work a.0.gates (zeros a.0.qubits)).entries) SampleTooWide) _ o s.2 in
+            same_output o _ _ w.2 (ap (sample_output shots seed) (read_same text a.0 c a.1 read))
 
   pub demo_comes : (qubits gates seed : ℕ) → 1 ≤ qubits → qubits ≤ 64 → gates ≤ 500000 → ArePassed rules zeros (drawn_circuit qubits gates seed)
       → ComesTo (Demonstrates rules qubits gates seed) (record { cause = Done; bytes = demo_output qubits (drawn_circuit qubits gates seed).gates })
@@ -190,6 +251,13 @@ module _ (rules : Settings) (wide : 2 ≤ rules.width) where
             let some = handed_on lawful wide in_order in
             let m = (said some.0 some.1).0 in
             (Ok u, first, (Ok v, second, (Ok tt, (λ other. other ordered.0), (Ok m.0, m.1, says))))
+
+  pub fidelity_comes : (one two : List ℕ) (u v : Circuit) → ReadsAs one 64 (circuit u) → ReadsAs two 64 (circuit v) → FidelityIsOrdered rules u v
+      → ComesTo (Overlaps rules one two) (record { cause = Done; bytes = fidelity_output u.qubits u.gates v.gates })
+  fidelity_comes one two u v first second ordered =
+      comes_to _ (laws_of task.Fidelity rules (one ∷ two ∷ [])) wide
+      (reads_with (λ w. ReadsWith (FidelityIsOrdered rules w) two) one u first (reads_with (FidelityIsOrdered rules u) two v second ordered))
+      (λ o h. (fidelity_written rules one two u v first second o h).1)
 
 -- ---- refusals
 -- any cause but a refusal

@@ -48,10 +48,11 @@ NeverLacksNodes phase = (step : ℕ) (order : List ℕ) (held : ℕ) → ¬ phas
 abbrev pub AreEnough : Settings → ℕ → Type 0
 AreEnough rules n = (64 * (rules.width + 2) + 130) * 2 ^ n ≤ rules.nodes
 
--- as many as a task on these texts needs at most: `eq` has two variables for each qubit of its first text
+-- as many as a task on these texts needs at most: `eq` and `fidelity` have two variables for each qubit of their first text
 abbrev pub HasEnough : Task → Settings → List (List ℕ) → Type 0
 HasEnough (task.Demo qubits gates seed) rules texts = InRange (task.Demo qubits gates seed) × AreEnough rules qubits
 HasEnough task.Eq rules texts = (u : Circuit) → ReadsAs (get_or texts 0 []) 64 (circuit u) → AreEnough rules (2 * u.qubits)
+HasEnough task.Fidelity rules texts = (u : Circuit) → ReadsAs (get_or texts 0 []) 64 (circuit u) → AreEnough rules (2 * u.qubits)
 HasEnough _ rules texts = (c : Circuit) → ReadsAs (get_or texts 0 []) 64 (circuit c) → AreEnough rules c.qubits
 
 -- each item has what it needs, on what the items before it hand on

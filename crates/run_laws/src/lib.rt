@@ -6,6 +6,6 @@ mod laws;
 
 pub use calm::calm_run;
 pub use laws::{
-    complete, demo_is_never_refused, enough_nodes, eq_exactly, one_end, one_run, run_on_texts,
-    small_outputs, some_end,
+    complete, demo_is_never_refused, enough_nodes, eq_exactly, equal_circuits_overlap, one_end,
+    one_run, run_on_texts, small_outputs, some_end,
 };

@@ -13,3 +13,4 @@ pub mod CountsAt
 pub mod Counted
 pub mod OnTop
 pub mod Descents
+pub mod KeptSums

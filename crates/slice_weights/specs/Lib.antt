@@ -2,3 +2,4 @@ pub mod Private
 pub mod Paths
 pub mod Counts
 pub mod OnTop
+pub mod KeptSums

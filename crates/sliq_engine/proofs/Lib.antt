@@ -1,7 +1,9 @@
 mod Endings
 mod SimExits
-pub mod ProbExits
+pub mod WeighedExits
 mod DemoExits
+mod PairExits
 mod EqExits
+pub mod FidelityExits
 mod TakingLemmas
 mod RunLemmas

@@ -14,6 +14,8 @@ use Rattle.sliq_engine.specs.Sim.{Sims}
 use Rattle.sliq_engine.specs.Eq.{Compares}
 use Rattle.sliq_engine.specs.Prob.{Weighs}
 use Rattle.sliq_engine.specs.Demo.{Demonstrates}
+use Rattle.sliq_engine.specs.Sample.{Samples}
+use Rattle.sliq_engine.specs.Fidelity.{Overlaps}
 
 -- each command, on the texts of its files
 abbrev pub CarriesOut : Task → Settings → List (List ℕ) → Phase Output Cause
@@ -21,6 +23,8 @@ CarriesOut (task.Sim bits) rules texts = Sims bits rules (get_or texts 0 [])
 CarriesOut task.Prob rules texts = Weighs rules (get_or texts 0 [])
 CarriesOut task.Eq rules texts = Compares rules (get_or texts 0 []) (get_or texts 1 [])
 CarriesOut (task.Demo qubits gates seed) rules texts = Demonstrates rules qubits gates seed
+CarriesOut (task.Sample shots seed) rules texts = Samples shots seed rules (get_or texts 0 [])
+CarriesOut task.Fidelity rules texts = Overlaps rules (get_or texts 0 []) (get_or texts 1 [])
 
 -- the words ask for something; else the shelf stays as it is
 abbrev pub Asks : {S : Type 0} → List (List ℕ) → S → S → Phase Request Cause

@@ -4,6 +4,8 @@ pub mod Sim
 pub mod Eq
 pub mod Prob
 pub mod Demo
+pub mod Sample
+pub mod Fidelity
 pub mod Comes
 pub mod Ending
 pub mod Private

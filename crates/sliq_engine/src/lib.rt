@@ -3,9 +3,11 @@
 
 mod demo;
 mod eq;
+mod overlaps;
 mod perform;
 mod prob;
 mod reading;
+mod sample;
 mod sim;
 mod simulation;
 mod taking;

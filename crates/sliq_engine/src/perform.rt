@@ -8,7 +8,9 @@ ghost use Rattle.sliq_engine.specs.Private.{bytes_of};
 
 use crate::demo::demo;
 use crate::eq::eq;
+use crate::overlaps::overlaps;
 use crate::prob::prob;
+use crate::sample::sample;
 use crate::sim::sim;
 use amp_dense::Rules;
 use causes::Cause;
@@ -41,5 +43,7 @@ pub fn perform<K: Sink>(
             gates,
             seed,
         } => demo(alloc, out, qubits, gates, seed, rules),
+        Task::Sample { shots, seed } => sample(alloc, out, &texts[0], shots, seed, rules),
+        Task::Fidelity => overlaps(alloc, out, &texts[0], &texts[1], rules),
     }
 }

@@ -71,7 +71,13 @@ each_sound = (
       record { simple = refl; free = refl; files = λ a b c input. refl; values = λ a b c input in_a in_b in_c short. tt },
       (
         record { simple = refl; free = refl; files = λ a b c input. refl; values = λ a b c input in_a in_b in_c short. (in_a.0, in_a.1, in_b.1) },
-        tt,
+        (
+          record { simple = refl; free = refl; files = λ a b c input. refl; values = λ a b c input in_a in_b in_c short. in_b.1 },
+          (
+            record { simple = refl; free = refl; files = λ a b c input. refl; values = λ a b c input in_a in_b in_c short. tt },
+            tt,
+          ),
+        ),
       ),
     ),
   ),

@@ -184,5 +184,6 @@ asked_sound (program ∷ word ∷ rest) r e = let form = bound (form_of word) (�
 -- no command has more than two files
 pub few_files : (t : Task) → file_count t ≤ 2
 few_files task.Eq = omega arith
+few_files task.Fidelity = omega arith
 few_files (task.Demo qubits gates seed) = omega arith
 few_files _ = omega arith

@@ -8,7 +8,7 @@ use Rattle.sliq_words.specs.declared.reading.Task.TheVariants as task
 use Rattle.sliq_words.specs.declared.reading.Asked.{Asked}
 use Rattle.sliq_words.specs.declared.form.Form.{Form}
 use Rattle.sliq_words.specs.declared.form.Kind.{Kind}
-use Rattle.sliq_words.specs.declared.form.Kind.TheVariants.{Sim, Eq, Prob, Demo}
+use Rattle.sliq_words.specs.declared.form.Kind.TheVariants.{Sim, Eq, Prob, Demo, Sample, Fidelity}
 use Rattle.sliq_words.specs.declared.form.Word.{Word}
 use Rattle.sliq_words.specs.declared.form.Word.TheVariants.{File, Number}
 use Rattle.sliq_words.specs.Forms.{form_of, faults, rows_for}
@@ -60,6 +60,8 @@ filled Sim first second third input = task.Sim input
 filled Eq first second third input = task.Eq
 filled Prob first second third input = task.Prob
 filled Demo first second third input = task.Demo first second third
+filled Sample first second third input = task.Sample second third
+filled Fidelity first second third input = task.Fidelity
 
 -- a command with its values
 unfoldable pub task_in : Form → List Row → Option Task
@@ -89,6 +91,7 @@ request t fs r = record { task = t; files = fs; rules = r }
 -- how many files a command has
 abbrev pub file_count : Task → ℕ
 file_count task.Eq = 2
+file_count task.Fidelity = 2
 file_count (task.Demo qubits gates seed) = 0
 file_count _ = 1
 
@@ -96,6 +99,7 @@ file_count _ = 1
 abbrev pub InRange : Task → Type 0
 InRange (task.Sim input) = IfSome input (λ bits. length bits ≤ 64)
 InRange (task.Demo qubits gates seed) = (1 ≤ qubits) × (qubits ≤ 64) × (gates ≤ 500000)
+InRange (task.Sample shots seed) = shots ≤ 1000000
 InRange _ = Unit {0}
 
 -- there are as many files as the command has, and its values and its rules lie in their ranges

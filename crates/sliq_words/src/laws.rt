@@ -5,8 +5,8 @@ ghost use Rattle.sliq_words.specs.Asked.{asked_of, request, settings};
 use crate::reading::Task;
 
 /// What small lists of words ask for, by the definition alone: options in any order and place, in one word or two; `--` before a name; a command of
-/// two files, one of standard input, one of three numbers; and words that ask for nothing, since an option stands there twice, is cut short, or
-/// lacks its value.
+/// two files, one of standard input, one of three numbers, one of a file and two numbers; and words that ask for nothing, since an option stands
+/// there twice, is cut short, or lacks its value.
 pub fn small_command_lines()
     ensures in_order { asked_of (codes "sliq" ∷ codes "sim" ∷ codes "--width" ∷ codes "8" ∷ codes "a" ∷ codes "--nodes=64" ∷ [])
         ≡ Some (request (Task.Sim None) (codes "a" ∷ []) (settings 8 64 65536 16 0)) }
@@ -22,6 +22,8 @@ pub fn small_command_lines()
         ≡ Some (request Task.Prob (codes "-" ∷ []) (settings 128 1048576 65536 16 0)) }
     ensures three_numbers { asked_of (codes "sliq" ∷ codes "demo" ∷ codes "3" ∷ codes "4" ∷ codes "5" ∷ [])
         ≡ Some (request (Task.Demo 3 4 5) [] (settings 128 1048576 65536 16 0)) }
+    ensures file_and_numbers { asked_of (codes "sliq" ∷ codes "sample" ∷ codes "a" ∷ codes "02" ∷ codes "7" ∷ [])
+        ≡ Some (request (Task.Sample 2 7) (codes "a" ∷ []) (settings 128 1048576 65536 16 0)) }
     ensures twice { asked_of (codes "sliq" ∷ codes "sim" ∷ codes "a" ∷ codes "--width=8" ∷ codes "--width=8" ∷ []) ≡ None }
     ensures cut_short { asked_of (codes "sliq" ∷ codes "sim" ∷ codes "a" ∷ codes "--wid" ∷ codes "8" ∷ []) ≡ None }
     ensures no_value { asked_of (codes "sliq" ∷ codes "sim" ∷ codes "a" ∷ codes "--width" ∷ []) ≡ None }

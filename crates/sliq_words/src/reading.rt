@@ -20,6 +20,8 @@ pub enum Task {
     Eq,
     Prob,
     Demo { qubits: u8, gates: u32, seed: u64 },
+    Sample { shots: u32, seed: u64 },
+    Fidelity,
 }
 
 /// What the words of a run ask for: a command with its values, the names of its files in their order, and the rules of its simulation.
@@ -114,6 +116,11 @@ fn filled(kind: Kind, first: u64, second: u64, third: u64, input: Option<Bits>) 
             gates: second as u32,
             seed: third,
         },
+        Kind::Sample => Task::Sample {
+            shots: second as u32,
+            seed: third,
+        },
+        Kind::Fidelity => Task::Fidelity,
     }
 }
 

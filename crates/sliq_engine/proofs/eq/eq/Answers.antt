@@ -9,24 +9,26 @@ use Rattle.amp_dense.specs.Standing.{MayStop}
 use Rattle.unitary_update.specs.Kept.{Standing, Multiplies}
 use Rattle.outputs.specs.declared.output.SendStop.{SendStop}
 use Rattle.causes.specs.declared.cause.Cause.{Cause}
+use Rattle.causes.specs.declared.cause.Cause.TheVariants.{Done}
 use Rattle.sliq_engine.specs.Steps.{SameQubits}
 use Rattle.causes.specs.Stops.{cause_of, cause_of_sending}
-use Rattle.sliq_engine.specs.Eq.{Compares}
+use Rattle.sliq_engine.specs.Eq.{Says}
 use Rattle.sliq_engine.specs.Ending.{MayEnd, MayStopBy}
-use Rattle.sliq_engine.proofs.EqExits.{eq_refused, eq_refused_second, eq_unlike, eq_halts, eq_stops, eq_done, eq_differs}
+use Rattle.sliq_engine.proofs.PairExits.{same_numbers, pair_refused, pair_refused_second, pair_unlike, pair_halts, pair_ends}
+use Rattle.sliq_engine.proofs.EqExits.{says_stops, says_done, says_differs}
 use Rattle.sliq_engine.proofs.eq.eq.Goals as goal
 
 pub returns-in_err-u-clause-stop : goal.returns-in_err-u-clause-stop
 returns-in_err-u-clause-stop g c =
     let cause : Cause = c.in_err-u.field-0.0 in
     let told : c.from_residual.result ≡ Err cause = search rules in
-    rw told (eq_refused c.args.rules.now c.args.one.now c.args.two.now cause (g.K.Sink.written c.args.out.now) c.in_err-u.ensures.stop)
+    rw told (pair_refused Says c.args.rules.now c.args.one.now c.args.two.now cause (g.K.Sink.written c.args.out.now) c.in_err-u.ensures.stop)
 
 pub returns-in_err-v-clause-stop : goal.returns-in_err-v-clause-stop
 returns-in_err-v-clause-stop g c =
     let cause : Cause = c.in_err-v.field-0.0 in
     let told : c.from_residual-in_err-v.result ≡ Err cause = search rules in
-    rw told (eq_refused_second c.args.rules.now c.args.one.now c.args.two.now c.in_ok-u.u c.in_ok-u.ensures.reads cause (g.K.Sink.written c.args.out.now) c.in_err-v.ensures.stop)
+    rw told (pair_refused_second Says c.args.rules.now c.args.one.now c.args.two.now c.in_ok-u.u c.in_ok-u.ensures.reads cause (g.K.Sink.written c.args.out.now) c.in_err-v.ensures.stop)
 
 pub returns-in_err-check_qubits-clause-stop : goal.returns-in_err-check_qubits-clause-stop
 returns-in_err-check_qubits-clause-stop g c =
@@ -37,11 +39,7 @@ returns-in_err-check_qubits-clause-stop g c =
     let stop : MayStopBy (SameQubits u.qubits v.qubits) cause =
     subst (λ (m : ℕ). MayStopBy (SameQubits m v.qubits) cause) c.qubits.ensures.value
     (subst (λ (n : ℕ). MayStopBy (SameQubits c.qubits.result n) cause) c.qubits-2.ensures.value c.in_err-check_qubits.ensures.stop) in
-    rw told (eq_unlike c.args.rules.now c.args.one.now c.args.two.now u c.in_ok-u.ensures.reads v c.in_ok-v.ensures.reads cause (g.K.Sink.written c.args.out.now) stop)
-
--- the two numbers of qubits, as they are read
-same_numbers : (m n first second : ℕ) → first ≡ m → second ≡ n → first ≡ second → m ≡ n
-same_numbers m n first second p q e = sym p ∙ e ∙ q
+    rw told (pair_unlike Says c.args.rules.now c.args.one.now c.args.two.now u c.in_ok-u.ensures.reads v c.in_ok-v.ensures.reads cause (g.K.Sink.written c.args.out.now) stop)
 
 pub compare-requires-clause-small : goal.compare-requires-clause-small
 compare-requires-clause-small g c = c.qubits.ensures.sound.few_qubits
@@ -50,10 +48,11 @@ pub returns-in_err-verdict-clause-stop : goal.returns-in_err-verdict-clause-stop
 returns-in_err-verdict-clause-stop g c =
     let u : Circuit = c.in_ok-u.u in
     let v : Circuit = c.in_ok-v.v in
+    let same : u.qubits ≡ v.qubits = (same_numbers c.in_ok-u.u.qubits c.in_ok-v.v.qubits c.qubits.result c.qubits-2.result c.qubits.ensures.value c.qubits-2.ensures.value c.in_ok-check_qubits.ensures.same) in
     let stop : Stop = c.in_err-verdict.field-0.0 in
     let told : c.from_residual-in_err-verdict.result ≡ Err (cause_of stop) = search rules in
     let means : MayStop (Multiplies c.args.rules.now u.qubits (steps_of u.gates v.gates)) stop = c.in_err-verdict.ensures.stop in
-    rw told (eq_halts c.args.rules.now c.args.one.now c.args.two.now c.in_ok-u.u c.in_ok-u.ensures.reads c.in_ok-v.v c.in_ok-v.ensures.reads (same_numbers c.in_ok-u.u.qubits c.in_ok-v.v.qubits c.qubits.result c.qubits-2.result c.qubits.ensures.value c.qubits-2.ensures.value c.in_ok-check_qubits.ensures.same) stop (g.K.Sink.written c.args.out.now) means)
+    rw told (pair_halts Says c.args.rules.now c.args.one.now c.args.two.now u c.in_ok-u.ensures.reads v c.in_ok-v.ensures.reads same stop (g.K.Sink.written c.args.out.now) means)
 
 pub send_verdict-requires : goal.send_verdict-requires
 send_verdict-requires g c =
@@ -65,28 +64,34 @@ pub returns-in_err-send_verdict-clause-stop : goal.returns-in_err-send_verdict-c
 returns-in_err-send_verdict-clause-stop g c =
     let u : Circuit = c.in_ok-u.u in
     let v : Circuit = c.in_ok-v.v in
+    let same : u.qubits ≡ v.qubits = (same_numbers c.in_ok-u.u.qubits c.in_ok-v.v.qubits c.qubits.result c.qubits-2.result c.qubits.ensures.value c.qubits-2.ensures.value c.in_ok-check_qubits.ensures.same) in
+    let came : (m : Standing) × Multiplies c.args.rules.now u.qubits (steps_of u.gates v.gates) (Ok m) = c.in_ok-verdict.ensures.comes in
     let stop : SendStop = c.in_err-send_verdict.field-0.0 in
     let told : c.from_residual-in_err-send_verdict.result ≡ Err (cause_of_sending stop) = search rules in
-    let came : (m : Standing) × Multiplies c.args.rules.now u.qubits (steps_of u.gates v.gates) (Ok m) = c.in_ok-verdict.ensures.comes in
-    rw told (eq_stops c.args.rules.now c.args.one.now c.args.two.now c.in_ok-u.u c.in_ok-u.ensures.reads c.in_ok-v.v c.in_ok-v.ensures.reads (same_numbers c.in_ok-u.u.qubits c.in_ok-v.v.qubits c.qubits.result c.qubits-2.result c.qubits.ensures.value c.qubits-2.ensures.value c.in_ok-check_qubits.ensures.same) came c.in_ok-verdict.verdict c.in_ok-verdict.ensures.verdict stop
-    (g.K.Sink.written c.args.out.now) (g.K.Sink.written c.send_verdict.new.out) c.in_err-send_verdict.ensures.err)
+    rw told (pair_ends Says c.args.rules.now c.args.one.now c.args.two.now u c.in_ok-u.ensures.reads v c.in_ok-v.ensures.reads same came.0 came.1
+    (cause_of_sending stop) (g.K.Sink.written c.args.out.now) (g.K.Sink.written c.send_verdict.new.out)
+    (says_stops u v c.in_ok-verdict.verdict c.in_ok-verdict.ensures.verdict stop (g.K.Sink.written c.args.out.now) (g.K.Sink.written c.send_verdict.new.out) c.in_err-send_verdict.ensures.err))
 
 pub returns-in_err-told-clause-stop : goal.returns-in_err-told-clause-stop
 returns-in_err-told-clause-stop g c =
     let u : Circuit = c.in_ok-u.u in
     let v : Circuit = c.in_ok-v.v in
-    let cause : Cause = c.in_err-told.field-0.0 in
-    let told : c.from_residual-in_err-told.result ≡ Err cause = search rules in
+    let same : u.qubits ≡ v.qubits = (same_numbers c.in_ok-u.u.qubits c.in_ok-v.v.qubits c.qubits.result c.qubits-2.result c.qubits.ensures.value c.qubits-2.ensures.value c.in_ok-check_qubits.ensures.same) in
     let came : (m : Standing) × Multiplies c.args.rules.now u.qubits (steps_of u.gates v.gates) (Ok m) = c.in_ok-verdict.ensures.comes in
     let said = c.in_err-told.ensures.differs in
-    let P : Cause → Type 0 = λ k. MayEnd (Compares c.args.rules.now c.args.one.now c.args.two.now) k (g.K.Sink.written c.args.out.now) (g.K.Sink.written c.send_verdict.new.out) in
-    rw told (subst P (sym said.1) (eq_differs c.args.rules.now c.args.one.now c.args.two.now c.in_ok-u.u c.in_ok-u.ensures.reads c.in_ok-v.v c.in_ok-v.ensures.reads (same_numbers c.in_ok-u.u.qubits c.in_ok-v.v.qubits c.qubits.result c.qubits-2.result c.qubits.ensures.value c.qubits-2.ensures.value c.in_ok-check_qubits.ensures.same) came c.in_ok-verdict.verdict c.in_ok-verdict.ensures.verdict
-    (g.K.Sink.written c.args.out.now) (g.K.Sink.written c.send_verdict.new.out) (sym said.0 ∙ said.1) c.in_ok-send_verdict.ensures.ok))
+    let cause : Cause = c.in_err-told.field-0.0 in
+    let told : c.from_residual-in_err-told.result ≡ Err cause = search rules in
+    let P : Cause → Type 0 = λ k. MayEnd (Says u v) k (g.K.Sink.written c.args.out.now) (g.K.Sink.written c.send_verdict.new.out) in
+    rw told (pair_ends Says c.args.rules.now c.args.one.now c.args.two.now u c.in_ok-u.ensures.reads v c.in_ok-v.ensures.reads same came.0 came.1
+    cause (g.K.Sink.written c.args.out.now) (g.K.Sink.written c.send_verdict.new.out)
+    (subst P (sym said.1) (says_differs u v c.in_ok-verdict.verdict c.in_ok-verdict.ensures.verdict (g.K.Sink.written c.args.out.now) (g.K.Sink.written c.send_verdict.new.out) (sym said.0 ∙ said.1) c.in_ok-send_verdict.ensures.ok)))
 
 pub returns-clause-done : goal.returns-clause-done
 returns-clause-done g c =
     let u : Circuit = c.in_ok-u.u in
     let v : Circuit = c.in_ok-v.v in
+    let same : u.qubits ≡ v.qubits = (same_numbers c.in_ok-u.u.qubits c.in_ok-v.v.qubits c.qubits.result c.qubits-2.result c.qubits.ensures.value c.qubits-2.ensures.value c.in_ok-check_qubits.ensures.same) in
     let came : (m : Standing) × Multiplies c.args.rules.now u.qubits (steps_of u.gates v.gates) (Ok m) = c.in_ok-verdict.ensures.comes in
-    eq_done c.args.rules.now c.args.one.now c.args.two.now c.in_ok-u.u c.in_ok-u.ensures.reads c.in_ok-v.v c.in_ok-v.ensures.reads (same_numbers c.in_ok-u.u.qubits c.in_ok-v.v.qubits c.qubits.result c.qubits-2.result c.qubits.ensures.value c.qubits-2.ensures.value c.in_ok-check_qubits.ensures.same) came c.in_ok-verdict.verdict c.in_ok-verdict.ensures.verdict
-    (g.K.Sink.written c.args.out.now) (g.K.Sink.written c.send_verdict.new.out) c.in_ok-told.ensures.done c.in_ok-send_verdict.ensures.ok
+    pair_ends Says c.args.rules.now c.args.one.now c.args.two.now u c.in_ok-u.ensures.reads v c.in_ok-v.ensures.reads same came.0 came.1
+    Done (g.K.Sink.written c.args.out.now) (g.K.Sink.written c.send_verdict.new.out)
+    (says_done u v c.in_ok-verdict.verdict c.in_ok-verdict.ensures.verdict (g.K.Sink.written c.args.out.now) (g.K.Sink.written c.send_verdict.new.out) c.in_ok-told.ensures.done c.in_ok-send_verdict.ensures.ok)

@@ -33,6 +33,10 @@ pub returns-clause-three_numbers : goal.returns-clause-three_numbers
 unfolding clap_on_literals form_of app_for faults rows_for number_in bits_of setting_of rules_in input_in task_in files_in request_in asked_after
 returns-clause-three_numbers c = refl
 
+pub returns-clause-file_and_numbers : goal.returns-clause-file_and_numbers
+unfolding clap_on_literals form_of app_for faults rows_for number_in bits_of setting_of rules_in input_in task_in files_in request_in asked_after
+returns-clause-file_and_numbers c = refl
+
 pub returns-clause-twice : goal.returns-clause-twice
 unfolding clap_on_literals form_of app_for faults rows_for number_in bits_of setting_of rules_in input_in task_in files_in request_in asked_after
 returns-clause-twice c = refl
