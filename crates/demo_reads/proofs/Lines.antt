@@ -16,8 +16,9 @@ use Rattle.qasm_lex.specs.Private.Classes.{class_of}
 use Rattle.qasm_lex.specs.Lexemes.{Begins, IsRun, IsWhole, AreLexemes}
 use Rattle.qasm_lex.specs.Private.Scan.{run, exponent, number, quoted, piece_of}
 use Rattle.qasm_lex.proofs.Front.{begins}
-use Rattle.demo_text.proofs.Writing.{demo_parted}
-use Rattle.demo_text.specs.Generator.{Call, call, names, name_at, kinds, drawn, next, arity, qubits_drawn, call_drawn, after_call, calls_drawn, place_text, more_places, places_text, line, lines, first_calls, head_text, demo_text}
+use Rattle.demo_text.specs.Generator.{Call, call, names, name_at, kinds, drawn, next, arity, qubits_drawn, call_drawn, after_call, calls_drawn, place_text, places_text, line, first_calls, head_text, demo_text}
+use Rattle.demo_text.specs.Private.{more_places, lines}
+use Rattle.demo_text.proofs.Writing.{demo_parted, places_is}
 use Rattle.demo_reads.proofs.Spelled.{Spelled, text_of, AreFronts, lexemes}
 use Rattle.demo_reads.proofs.Pieces.{place_pieces, more_pieces, places_pieces, line_end, line_pieces, lines_pieces, head_pieces, demo_pieces}
 use Rattle.demo_reads.proofs.Cutting.{spelled_lexemes}
@@ -113,14 +114,14 @@ more_bytes (i ∷ is) = ap (λ t. code "," ∷ t) (text_append (place_pieces i) 
 places_bytes : (is : List ℕ) → text_of (places_pieces is) ≡ places_text is
 unfolding places_pieces places_text text_of
 places_bytes [] = refl
-places_bytes (i ∷ is) = text_append (place_pieces i) (more_pieces is) ∙ ap (λ t. t ++ text_of (more_pieces is)) (place_bytes i) ∙ ap (λ t. place_text i ++ t) (more_bytes is)
+places_bytes (i ∷ is) = text_append (place_pieces i) (more_pieces is) ∙ ap (λ t. t ++ text_of (more_pieces is)) (place_bytes i) ∙ ap (λ t. place_text i ++ t) (more_bytes is) ∙ sym (places_is i is)
 
 line_bytes : (c : Call) → text_of (line_pieces c) ≡ line c
 unfolding line_pieces line text_of
 line_bytes c = ap (λ t. c.name ++ (code " " ∷ t)) (text_append (places_pieces c.on) line_end ∙ ap (λ t. t ++ codes ";\n") (places_bytes c.on))
 
 lines_bytes : (cs : List Call) → text_of (lines_pieces cs) ≡ lines cs
-unfolding lines_pieces lines text_of
+unfolding lines_pieces text_of
 lines_bytes [] = refl
 lines_bytes (c ∷ cs) = text_append (line_pieces c) (lines_pieces cs) ∙ ap (λ t. t ++ text_of (lines_pieces cs)) (line_bytes c) ∙ ap (λ t. line c ++ t) (lines_bytes cs)
 

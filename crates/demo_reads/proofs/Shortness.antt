@@ -8,8 +8,9 @@ use Rattle.gate_set.specs.declared.kind.Kind.{Kind}
 use Rattle.gate_set.specs.declared.kind.Kind.TheVariants.{Cx, Cz, Swap, Ccx, Cswap}
 use Rattle.gate_set.specs.Matrix.{arity_of}
 use Rattle.qasm_gates.specs.Gates.{builtin}
-use Rattle.demo_text.specs.Generator.{Call, call, name_at, kinds, drawn, place_text, more_places, places_text, line, lines, first_calls, call_drawn, after_call, calls_drawn, head_text, demo_text}
-use Rattle.demo_text.proofs.Writing.{demo_parted}
+use Rattle.demo_text.specs.Generator.{Call, call, name_at, kinds, drawn, place_text, places_text, line, first_calls, call_drawn, after_call, calls_drawn, head_text, demo_text}
+use Rattle.demo_text.specs.Private.{more_places, lines}
+use Rattle.demo_text.proofs.Writing.{demo_parted, places_is}
 use Rattle.demo_reads.specs.Drawn.{kind_in}
 use Rattle.demo_reads.proofs.Accepting.{IsCall}
 use Rattle.demo_reads.proofs.Lines.{drawn_below, kinds_few}
@@ -54,7 +55,7 @@ more_short (i ∷ is) h = omega (arith, length-append (place_text i) (more_place
 places_short : (is : List ℕ) → AllByRecursion (λ i. i < 64) is → length (places_text is) ≤ 6 * length is
 unfolding places_text
 places_short [] h = omega arith
-places_short (i ∷ is) h = omega (arith, length-append (place_text i) (more_places is), place_short i h.0, more_short is h.1)
+places_short (i ∷ is) h = omega (arith, ap length (places_is i is), length-append (place_text i) (more_places is), place_short i h.0, more_short is h.1)
 
 below_64 : (q : ℕ) (is : List ℕ) → q ≤ 64 → AllByRecursion (λ i. i < q) is → AllByRecursion (λ i. i < 64) is
 below_64 q [] le h = tt
@@ -66,7 +67,6 @@ line_short q c le h short =
     omega (arith, length-append c.name (codes " " ++ (places_text c.on ++ codes ";\n")), length-append (places_text c.on) (codes ";\n"), places_short c.on (below_64 q c.on le h.below), h.count, arity_small (kind_in (builtin c.name)), short)
 
 lines_short : (q : ℕ) (cs : List Call) → q ≤ 64 → AllByRecursion (IsCall q) cs → AllByRecursion (λ (c : Call). length c.name ≤ 5) cs → length (lines cs) ≤ 26 * length cs
-unfolding lines
 lines_short q [] le h short = omega arith
 lines_short q (c ∷ cs) le h short = omega (arith, length-append (line c) (lines cs), line_short q c le h.0 short.0, lines_short q cs le h.1 short.1)
 

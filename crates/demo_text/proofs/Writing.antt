@@ -1,8 +1,10 @@
 -- Lines, piece by piece.
-use Rattle.std.proofs.Common.{◌≡◌, ℕ, zero, suc, ◌+◌, ◌-◌, ◌<◌, ◌≤◌, List, [], ◌∷◌, ◌++◌, map, length, get_or, codes, decimal, refl, sym, ◌∙◌, ap, arith}
+use Rattle.std.proofs.Common.{◌≡◌, ℕ, suc, ◌+◌, List, [], ◌∷◌, ◌++◌, map, length, get_or, codes, decimal, refl, sym, ◌∙◌, ap, arith}
 use Rattle.std.proofs.lemmas.List.{append-nil, append_assoc, map-append}
 use Rattle.std.specs.List.{range_with_len, remove}
-use Rattle.demo_text.specs.Generator.{Text, Call, call, next, drawn, name_at, arity, kinds, qubits_drawn, after_draws, call_drawn, after_call, calls_drawn, place_text, more_places, places_text, line, lines, first_calls, head_text, demo_text}
+use Rattle.std.specs.Fn.{iterate}
+use Rattle.demo_text.specs.Generator.{Call, call, next, drawn, name_at, arity, kinds, qubits_drawn, call_drawn, after_call, calls_drawn, place_text, places_text, line, first_calls, head_text, demo_text}
+use Rattle.demo_text.specs.Private.{Text, more_places, lines}
 use Rattle.demo_text.proofs.Drawing.{range_last}
 
 pub wrote2 : (t0 t1 t2 a b : Text) → t1 ≡ t0 ++ a → t2 ≡ t1 ++ b → t2 ≡ t0 ++ (a ++ b)
@@ -30,9 +32,8 @@ pub more_none : (n : ℕ) (free : List ℕ) (s : ℕ) (t : Text) → n ≡ 0 →
 unfolding more_places qubits_drawn
 more_none n free s t e = wrote_none t ∙ ap (λ k. t ++ more_places (qubits_drawn k free s)) (sym e)
 
-pub draws_none : (n s : ℕ) → n ≡ 0 → s ≡ after_draws n s
-unfolding after_draws
-draws_none n s e = ap (λ k. after_draws k s) (sym e)
+pub draws_none : (n s : ℕ) → n ≡ 0 → s ≡ iterate next n s
+draws_none n s e = ap (λ k. iterate next k s) (sym e)
 
 -- one place, and the rest
 pub more_one : (n m : ℕ) (free left : List ℕ) (s i : ℕ) (t0 t1 t2 t3 : Text) → n ≡ suc m → i ≡ get_or free (drawn (length free) s) 0 → left ≡ remove free (drawn (length free) s) → t1 ≡ t0 ++ codes "," → t2 ≡ t1 ++ place_text i → t3 ≡ t2 ++ more_places (qubits_drawn m left (next s)) → t3 ≡ t0 ++ more_places (qubits_drawn n free s)
@@ -43,16 +44,22 @@ more_one n m free left s i t0 t1 t2 t3 count at rest e f g =
     ∙ ap (λ l. t0 ++ (codes "," ++ (place_text (get_or free (drawn (length free) s) 0) ++ more_places (qubits_drawn m l (next s))))) rest
     ∙ ap (λ k. t0 ++ more_places (qubits_drawn k free s)) (sym count)
 
-pub draws_one : (n m s : ℕ) → n ≡ suc m → after_draws m (next s) ≡ after_draws n s
-unfolding after_draws
-draws_one n m s e = ap (λ k. after_draws k s) (sym e)
+pub draws_one : (n m s : ℕ) → n ≡ suc m → iterate next m (next s) ≡ iterate next n s
+draws_one n m s e = ap (λ k. iterate next k s) (sym e)
+
+-- the first place, and the others
+pub places_is : (i : ℕ) (is : List ℕ) → places_text (i ∷ is) ≡ place_text i ++ more_places is
+unfolding places_text more_places
+places_is i [] = sym (append-nil (place_text i))
+places_is i (j ∷ js) = ap (λ t. place_text i ++ (codes "," ++ t)) (places_is j js)
 
 pub places_one : (n m : ℕ) (free left : List ℕ) (s i : ℕ) (t0 t1 t2 : Text) → n ≡ suc m → i ≡ get_or free (drawn (length free) s) 0 → left ≡ remove free (drawn (length free) s) → t1 ≡ t0 ++ place_text i → t2 ≡ t1 ++ more_places (qubits_drawn m left (next s)) → t2 ≡ t0 ++ places_text (qubits_drawn n free s)
-unfolding places_text qubits_drawn
+unfolding qubits_drawn
 places_one n m free left s i t0 t1 t2 count at rest e f =
     wrote2 t0 t1 t2 (place_text i) (more_places (qubits_drawn m left (next s))) e f
     ∙ ap (λ k. t0 ++ (place_text k ++ more_places (qubits_drawn m left (next s)))) at
     ∙ ap (λ l. t0 ++ (place_text (get_or free (drawn (length free) s) 0) ++ more_places (qubits_drawn m l (next s)))) rest
+    ∙ ap (λ t. t0 ++ t) (sym (places_is (get_or free (drawn (length free) s) 0) (qubits_drawn m (remove free (drawn (length free) s)) (next s))))
     ∙ ap (λ k. t0 ++ places_text (qubits_drawn k free s)) (sym count)
 
 pub call_wrote : (q s k : ℕ) (t0 t1 t2 t3 t4 : Text) → k ≡ drawn (kinds q) s → t1 ≡ t0 ++ name_at k → t2 ≡ t1 ++ codes " " → t3 ≡ t2 ++ places_text (qubits_drawn (arity k) (range_with_len 0 q) (next s)) → t4 ≡ t3 ++ codes ";\n" → t4 ≡ t0 ++ line (call_drawn q s)
@@ -61,18 +68,15 @@ call_wrote q s k t0 t1 t2 t3 t4 is e f g h =
     wrote4 t0 t1 t2 t3 t4 (name_at k) (codes " ") (places_text (qubits_drawn (arity k) (range_with_len 0 q) (next s))) (codes ";\n") e f g h
     ∙ ap (λ j. t0 ++ (name_at j ++ (codes " " ++ (places_text (qubits_drawn (arity j) (range_with_len 0 q) (next s)) ++ codes ";\n")))) is
 
-pub call_state : (q s k : ℕ) → k ≡ drawn (kinds q) s → after_draws (arity k) (next s) ≡ after_call q s
+pub call_state : (q s k : ℕ) → k ≡ drawn (kinds q) s → iterate next (arity k) (next s) ≡ after_call q s
 unfolding after_call
-call_state q s k is = ap (λ j. after_draws (arity j) (next s)) is
+call_state q s k is = ap (λ j. iterate next (arity j) (next s)) is
 
 pub hadamard_wrote : (t0 t1 t2 t3 : Text) (i : ℕ) → t1 ≡ t0 ++ codes "h " → t2 ≡ t1 ++ place_text i → t3 ≡ t2 ++ codes ";\n" → t3 ≡ t0 ++ line (call (codes "h") (i ∷ []))
-unfolding line places_text more_places
-hadamard_wrote t0 t1 t2 t3 i e f g =
-    wrote3 t0 t1 t2 t3 (codes "h ") (place_text i) (codes ";\n") e f g
-    ∙ ap (λ p. t0 ++ (codes "h" ++ (codes " " ++ (p ++ codes ";\n")))) (sym (append-nil (place_text i)))
+unfolding line places_text
+hadamard_wrote t0 t1 t2 t3 i e f g = wrote3 t0 t1 t2 t3 (codes "h ") (place_text i) (codes ";\n") e f g
 
 lines_last : (cs : List Call) (c : Call) → lines (cs ++ (c ∷ [])) ≡ lines cs ++ line c
-unfolding lines
 lines_last [] c = append-nil (line c)
 lines_last (d ∷ cs) c = ap (λ l. line d ++ l) (lines_last cs c) ∙ sym (append_assoc (line d) (lines cs) (line c))
 
@@ -88,12 +92,11 @@ first_more t0 t1 t2 i e f =
     ∙ ap (λ l. t0 ++ l) (sym (ap (λ k. lines (first_of k)) one ∙ ap lines last ∙ lines_last (first_of i) (call (codes "h") (i ∷ []))))
 
 pub first_none : (t : Text) → t ≡ t ++ lines (first_of 0)
-unfolding lines
 first_none t = wrote_none t
 
 -- the calls that are left
 pub calls_step : (q n m s s1 : ℕ) (t0 t1 t2 : Text) (all : Text) → t0 ++ all ≡ t1 ++ lines (calls_drawn q n s) → n ≡ suc m → t2 ≡ t1 ++ line (call_drawn q s) → s1 ≡ after_call q s → t0 ++ all ≡ t2 ++ lines (calls_drawn q m s1)
-unfolding lines calls_drawn
+unfolding calls_drawn
 calls_step q n m s s1 t0 t1 t2 all kept count wrote state =
     kept ∙ ap (λ k. t1 ++ lines (calls_drawn q k s)) count
     ∙ sym (append_assoc t1 (line (call_drawn q s)) (lines (calls_drawn q m (after_call q s))))
@@ -101,12 +104,11 @@ calls_step q n m s s1 t0 t1 t2 all kept count wrote state =
     ∙ ap (λ k. t2 ++ lines (calls_drawn q m k)) (sym state)
 
 pub calls_end : (q n s : ℕ) (t0 t1 all : Text) → t0 ++ all ≡ t1 ++ lines (calls_drawn q n s) → n ≡ 0 → t1 ≡ t0 ++ all
-unfolding lines calls_drawn
+unfolding calls_drawn
 calls_end q n s t0 t1 all kept none = sym (kept ∙ ap (λ k. t1 ++ lines (calls_drawn q k s)) none ∙ append-nil t1)
 
 -- the lines of two lists of calls
 pub lines_append : (cs ds : List Call) → lines (cs ++ ds) ≡ lines cs ++ lines ds
-unfolding lines
 lines_append [] ds = refl
 lines_append (c ∷ cs) ds = ap (λ l. line c ++ l) (lines_append cs ds) ∙ sym (append_assoc (line c) (lines cs) (lines ds))
 

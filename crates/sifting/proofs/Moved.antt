@@ -2,7 +2,9 @@
 use Rattle.std.proofs.Common.{◌≡◌, ℕ, zero, suc, ◌<◌, Bool, true, false, cond, eqb, List, [], ◌∷◌, length, inl, inr, refl, sym, ◌∙◌, ap, subst, arith, eq-eqb}
 use Rattle.std.proofs.lemmas.Bool.{cases_Bool, cond-true, cond-false, eqb-true, false≢true}
 use Rattle.bit_lists.specs.Orders.{has, place_in, AreVars, IsOrder}
-use Rattle.sifting.specs.Places.{without, put_at, moved}
+use Rattle.sifting.specs.Places.{moved}
+use Rattle.sifting.specs.Private.{without, put_at}
+use Rattle.sifting.proofs.PlaceLemmas.{moved_is}
 use Rattle.sifting.proofs.Reached.{length_moved}
 
 -- ---- what is in the order
@@ -87,9 +89,9 @@ moved_order order v j is lt =
     let long : length (moved order v j) ≡ k = length_moved order v j (is.all v lt) in
     let out : has (without order v) v ≡ false = has_rest k order v v is.once ∙ cond-true (eqb v v) false (has order v) (eq-eqb v v refl) in
     record {
-      once = subst (λ n. AreVars n (moved order v j)) (sym long) (vars_put k v j (without order v) lt out (vars_rest k v order is.once));
+      once = subst (λ n. AreVars n (moved order v j)) (sym long) (subst (AreVars k) (sym (moved_is order v j)) (vars_put k v j (without order v) lt out (vars_rest k v order is.once)));
       all = λ w less.
-          has_put v j (without order v) w ∙ ap (cond (eqb v w) true) (has_rest k order v w is.once)
+          ap (λ vs. has vs w) (moved_is order v j) ∙ has_put v j (without order v) w ∙ ap (cond (eqb v w) true) (has_rest k order v w is.once)
           ∙ back (eqb v w) (has order w) (is.all w (omega (arith, less, long)));
     }
   where

@@ -1,5 +1,5 @@
 -- What holds on the ways of a sift.
-use Rattle.std.specs.Prelude.{◌≡◌, ◌⊎◌, ℕ, ◌+◌, ◌<◌, ◌≤◌, true, List, length}
+use Rattle.std.specs.Prelude.{◌≡◌, ◌⊎◌, ℕ, zero, suc, ◌+◌, ◌<◌, ◌≤◌, ◌==◌, cond, true, List, [], ◌∷◌, length}
 use Rattle.bit_lists.specs.Orders.{has}
 use Rattle.diagram_model.specs.Stores.{Diagram}
 use Rattle.node_store.specs.declared.node.Node.{Node}
@@ -7,6 +7,17 @@ use Rattle.sifting.specs.Places.{Sift, first, order_at, size_at, HasRoom, IsReac
 use Rattle.sifting.specs.Sifts.{StopsDown, StopsUp, functions_of}
 use Rattle.sifting.specs.declared.least.Least.{Least}
 use Rattle.sifting.specs.declared.least.Way.{Way}
+
+-- the order without the variable v
+unfoldable pub without : List ℕ → ℕ → List ℕ
+without [] v = []
+without (w ∷ ws) v = cond (w == v) ws (w ∷ without ws v)
+
+-- the order with v at the place j, and the others kept
+unfoldable pub put_at : ℕ → ℕ → List ℕ → List ℕ
+put_at v zero ws = v ∷ ws
+put_at v (suc j) [] = v ∷ []
+put_at v (suc j) (w ∷ ws) = w ∷ put_at v j ws
 
 -- the store has the order of a sift with its variable at the place j, its limit and its functions
 pub record Stands (s : Sift) (d : Diagram) (roots : List Node) (j : ℕ) : Type 0 where

@@ -40,6 +40,7 @@ use Rattle.slice_gates.proofs.Weaving.{on_state}
 use Rattle.slice_quad.specs.Stepping.{stepped, half_of}
 use Rattle.slice_gates.specs.Stepped.{step_for, IsStepOf}
 use Rattle.slice_gates.specs.GateWork.{gate_work, IsGateWork}
+use Rattle.slice_gates.proofs.GateWorks.{work_gate}
 use Rattle.slice_gates.specs.Shown.{at_lists, first_values, ReadsBelow, IsShown, Shows, by_values}
 use Rattle.slice_gates.proofs.Agreeing.{length-first_values, at_list, vector-reads, stepped-reads}
 use Rattle.slice_gates.proofs.Doubles.{doubled_quad, two-is, times_power-two}
@@ -153,6 +154,7 @@ unfolding gate_work
 work_same d q w g s sound shown is =
     ap (λ (t : Step). work_functions (length q.four.a) (function_of d q.kept.0) t (vector_in d q.four)) is.value
     ∙ ap (λ (v : Vector). work_functions (length q.four.a) (function_of d q.kept.0) (step_for (length d.order) State g) v) (sym (shown_vector (length d.order) d q.four q.exponent w sound refl shown))
+    ∙ work_gate (length d.order) State g (length q.four.a) (function_of d q.kept.0) (by_values (length d.order) w.entries)
 
 gate_wanted : (d : Diagram) (q : SliceQuad) (w : Scaled) (g : Gate) (s : Step) → IsSound d → Shows d q w → IsStepOf (length d.order) State g s → (p : Function) → IsWork d s q p → IsGateWork d q g w.entries p
 gate_wanted d q w g s sound shown is p h = subst (λ (fs : List Function). IsPrefixOfSome d.order fs p) (work_same d q w g s sound shown is) h

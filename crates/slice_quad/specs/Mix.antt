@@ -8,7 +8,7 @@ use Rattle.ring_omega.specs.Ring.{quad, sum_of, product_of, root_of_two}
 use Rattle.slice_quad.specs.declared.coord.Coord.{Coord}
 use Rattle.slice_quad.specs.declared.coord.Coord.TheVariants.{A, B, C, D}
 use Rattle.gate_set.specs.declared.entry.Entry.{Entry}
-use Rattle.gate_set.specs.declared.entry.Entry.TheVariants.{Zero, Omega, Root2}
+use Rattle.gate_set.specs.declared.entry.Entry.TheVariants.{Omega}
 use Rattle.gate_set.specs.Matrix.{times_entry}
 use Rattle.slice_quad.specs.Turns.{turn, root_turn}
 
@@ -54,15 +54,13 @@ zero_digits i = λ x. false
 
 -- the coordinate that an entry's power of ω brings to z: 0 for the entry 0. The rows have no entry √2
 unfoldable pub entry_digits : Entry → Coord → Coordinates → Digits
-entry_digits Zero z q = zero_digits
 entry_digits (Omega j) z q = q (turn j z).from
-entry_digits Root2 z q = zero_digits
+entry_digits _ z q = zero_digits
 
 -- whether it is negated
 unfoldable pub entry_negates : Entry → Coord → Bool
-entry_negates Zero z = false
 entry_negates (Omega j) z = (turn j z).negated
-entry_negates Root2 z = false
+entry_negates _ z = false
 
 -- the column s of the row r, from the entry of the vector with the target s
 unfoldable pub from_row : Mix → Coordinates → Coord → Bool → Bool → Digits

@@ -17,6 +17,7 @@ use Rattle.slice_gates.specs.Shown.{first_values, by_values}
 use Rattle.slice_gates.specs.Stepped.{step_for}
 use Rattle.slice_gates.proofs.Agreeing.{length-first_values}
 use Rattle.slice_gates.proofs.Doubles.{doubled_quad}
+use Rattle.slice_gates.proofs.GateWorks.{functions_same}
 use Rattle.step_upkeep.proofs.Products.{accepted_or_refused as product_end}
 use Rattle.step_upkeep.proofs.StepFor.{step_is}
 use Rattle.step_upkeep.proofs.StoredAfter.{fits_halved, halved_out, values_in, unit_fits}
@@ -44,7 +45,7 @@ accepted_or_refused s g m wide vars on fits =
     let IsDoubled : Scaled → ℕ → Type 0 = λ w t. (x : Assignment) → doubled_quad t (by_values n w.entries x) ≡ stepped (step_for n State g) (by_values n (vector s).entries) x in
     let out = taken_out n g (vector s) on in
     let halved : IsDoubled (work (s.gates ++ g ∷ []) s.input) out.0 = subst (λ w. IsDoubled w out.0) (sym (work-last s.gates g s.input)) out.1 in
-    product_end vector_chain s g n m out.0 wide vars (step_is n State g on.placed on.below).within (in_bits n s.rules.width m (vector s).entries wide fits) halved
+    product_end vector_chain s g (step_for n State g) (functions_same n State g) n m out.0 wide vars (step_is n State g on.placed on.below).within (in_bits n s.rules.width m (vector s).entries wide fits) halved
 
 -- ---- the coefficients fit on
 -- after a gate that fits

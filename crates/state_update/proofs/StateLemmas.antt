@@ -31,6 +31,7 @@ use Rattle.slice_quad.specs.Walks.{entries_in}
 use Rattle.slice_gates.specs.declared.side.Side.TheVariants as sides
 use Rattle.slice_gates.specs.Shown.{IsShown, Shows}
 use Rattle.slice_gates.specs.Stepped.{IsStepOf, step_for}
+use Rattle.slice_gates.proofs.GateWorks.{functions_same}
 use Rattle.slice_gates.proofs.Shown.{fits_shown, fits_from, step_at}
 use Rattle.step_upkeep.specs.Accepted.{IsAccepted}
 use Rattle.step_upkeep.specs.Chains.{Proceeds}
@@ -166,13 +167,13 @@ module _ (s : State) (g : Gate) (u : Step) (v : StoreAndCache) (r : SliceQuad) (
 
   pub gate_came : length s.gates < 2000000 → Told (Ok tt) → Proceeds vector_chain FitsAfter (standing_of s) g (Ok tt) (standing_of (state_with s.input s.rules (s.gates ++ g ∷ []) v r)) v.store
   gate_came few a =
-      proceeded vector_chain FitsAfter s.input s.rules s.gates s.diagrams s.quad (holds s h) g accepted count v r (own (Ok tt) a)
+      proceeded vector_chain FitsAfter s.input s.rules s.gates s.diagrams s.quad (holds s h) g (step_for (length s.input) sides.State g) (functions_same (length s.input) sides.State g) accepted count v r (own (Ok tt) a)
       (fits_shown (length s.input) s.rules.width s.diagrams.store s.quad.four s.quad.exponent (work s.gates s.input) g (step_for (length s.input) sides.State g) (shown_on s h) own_is)
       (holds (state_with s.input s.rules (s.gates ++ g ∷ []) v r) (kept_next few a))
 
   pub gate_stopped : (stop : Stop) → Told (Err stop) → Proceeds vector_chain FitsAfter (standing_of s) g (Err stop) (standing_of (state_with s.input s.rules s.gates v r)) v.store
   gate_stopped stop a =
-      stood vector_chain FitsAfter s.input s.rules s.gates s.diagrams s.quad (holds s h) g accepted count v r stop (own (Err stop) a)
+      stood vector_chain FitsAfter s.input s.rules s.gates s.diagrams s.quad (holds s h) g (step_for (length s.input) sides.State g) (functions_same (length s.input) sides.State g) accepted count v r stop (own (Err stop) a)
       (fits_from (length s.input) s.rules.width s.diagrams.store s.quad.four s.quad.exponent (work s.gates s.input) g (step_for (length s.input) sides.State g) h.sound.store h.variables (shown_on s h) own_is)
 
 -- ---- what is read

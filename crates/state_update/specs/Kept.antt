@@ -9,8 +9,8 @@ use Rattle.diagram_ops.specs.Diagrams.{StoreAndCache, IsConsistent}
 use Rattle.slice_quad.specs.declared.quad.SliceQuad.{SliceQuad}
 use Rattle.slice_quad.specs.Vectors.{Stands}
 use Rattle.slice_gates.specs.declared.side.Side.TheVariants.{State as OnState}
+use Rattle.slice_gates.specs.GateWork.{functions_on}
 use Rattle.slice_gates.specs.Shown.{Shows, by_values}
-use Rattle.slice_gates.specs.Stepped.{step_for}
 use Rattle.step_upkeep.specs.Chains.{Chain, policy_of}
 
 -- the input, the rules, the gates accepted so far, and the diagrams with the integers
@@ -43,7 +43,7 @@ pub record IsKept (s : State) : Type 0 where
 -- ---- gates
 -- the working vector over the variables, beside which no function is kept
 abbrev pub vector_chain : Chain (List Bool) Gate
-vector_chain = record { kept = λ input x. false; entries = λ input gates. by_values (length input) (work gates input).entries; step = λ input. step_for (length input) OnState }
+vector_chain = record { kept = λ input x. false; entries = λ input gates. by_values (length input) (work gates input).entries; functions = λ input. functions_on (length input) OnState }
 
 -- integers over diagrams
 abbrev pub sliced_policy : Policy

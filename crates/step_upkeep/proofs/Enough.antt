@@ -1,11 +1,11 @@
 -- How many nodes are always enough for a step: it has few work functions, each with a bounded number of nodes.
-use Rattle.std.proofs.Common.{◌≡◌, ℕ, zero, suc, ◌+◌, ◌*◌, ◌-◌, ◌^◌, ◌<◌, ◌≤◌, Bool, true, false, cond, List, [], ◌∷◌, ◌++◌, length, get_or, map, take, set, replicate, refl, ◌∙◌, ap, arith, length-append}
+use Rattle.std.proofs.Common.{◌≡◌, ℕ, zero, suc, ◌+◌, ◌*◌, ◌-◌, ◌^◌, ◌<◌, ◌≤◌, Bool, true, false, cond, List, [], ◌∷◌, ◌++◌, length, map, take, set, replicate, refl, sym, ◌∙◌, ap, subst, arith, length-append}
 use Rattle.std.specs.List.{fold, flat_map}
 use Rattle.std.proofs.Math.Nat.{mul-le-mul_right, mul-suc, suc-mul}
 use Rattle.std.proofs.lemmas.List.{length-map, length-take-le}
 use Rattle.std.proofs.lemmas.Nat.{pow_pos}
 use Rattle.gate_set.specs.declared.gate.Gate.{Gate}
-use Rattle.gate_set.specs.Matrix.{arity_of, half_power_of}
+use Rattle.gate_set.specs.Matrix.{arity_of}
 use Rattle.gate_set.specs.Shape.{IsPlaced, qubits_of, arity_with}
 use Rattle.gate_set.proofs.MatrixLemmas.{arity_of-few}
 use Rattle.diagram_model.specs.Functions.{Function}
@@ -19,11 +19,12 @@ use Rattle.slice_quad.specs.Bits.{bits_of}
 use Rattle.slice_quad.specs.Exchange.{Exchange, exchange_parts, exchange_functions, crossing_functions, exchange_work}
 use Rattle.slice_quad.specs.Fours.{true_places}
 use Rattle.slice_quad.specs.Mix.{Mix, Vector, Coordinates, from_target, term, negates, signed_term, raw}
-use Rattle.slice_quad.specs.Stepping.{mix_with, exchange_with, step_functions, work_functions}
 use Rattle.slice_quad.specs.Work.{conjunctions, gate_functions, term_functions, coordinate_functions, mix_functions}
 use Rattle.slice_gates.specs.declared.side.Side.{Side}
 use Rattle.slice_gates.specs.Sides.{place_on}
-use Rattle.slice_gates.specs.Stepped.{exchanges, controls_for, target_for, rows_of, mix_for, pair_for, step_for}
+use Rattle.slice_gates.specs.GateWork.{mix_on, exchange_on, functions_on}
+use Rattle.slice_gates.specs.Stepped.{exchanges, controls_for}
+use Rattle.slice_gates.proofs.GateWorks.{controls_same}
 
 -- ---- lists of functions
 -- as many as there are bits
@@ -173,32 +174,28 @@ controls_few n i side g placed within =
 
 -- ---- the work functions of a gate, on the variables of a side
 module _ (n w : ℕ) (side : Side) (g : Gate) (q : Coordinates) (placed : IsPlaced g.kind g.extra g.on) where
-  mix_few : length (step_functions w (mix_for n side g) q) ≤ 60 * w + 84
-  unfolding step_functions
+  mix_few : length (mix_functions w (mix_on n side g) q) ≤ 60 * w + 84
   mix_few =
-      let all = mix_count w (mix_with (target_for n side g).controls (target_for n side g).target (rows_of (target_for n side g)) (half_power_of g.kind)) q in
-      let few = controls_few n (arity_with g - 1) side g placed (omega arith) in
+      let all = mix_count w (mix_on n side g) q in
+      let few = subst (λ (cs : List ℕ). length cs ≤ 11) (sym (controls_same n side g 1)) (controls_few n (arity_with g - 1) side g placed (omega arith)) in
       omega (arith, all, few)
 
-  pair_few : length (step_functions w (pair_for n side g) q) ≤ 60 * w + 84
-  unfolding step_functions
+  pair_few : length (exchange_work w (exchange_on n side g) q) ≤ 60 * w + 84
   pair_few =
-      let all = crossed_count w (exchange_with (controls_for n (take (arity_with g - 2) (map (place_on side) (qubits_of g))))
-      (get_or (map (place_on side) (qubits_of g)) (arity_with g - 2) 0) (get_or (map (place_on side) (qubits_of g)) (arity_with g - 1) 0)) q in
-      let few = controls_few n (arity_with g - 2) side g placed (omega arith) in
+      let all = crossed_count w (exchange_on n side g) q in
+      let few = subst (λ (cs : List ℕ). length cs ≤ 11) (sym (controls_same n side g 2)) (controls_few n (arity_with g - 2) side g placed (omega arith)) in
       omega (arith, all, few)
 
-  step_few : length (step_functions w (step_for n side g) q) ≤ 60 * w + 84
-  step_few = by (exchanges g.kind)
+  gate_few : length (functions_on n side g w q) ≤ 60 * w + 84
+  gate_few = by (exchanges g.kind)
     where
-      by : (b : Bool) → length (step_functions w (cond b (pair_for n side g) (mix_for n side g)) q) ≤ 60 * w + 84
+      by : (b : Bool) → length (cond b (exchange_work w (exchange_on n side g) q) (mix_functions w (mix_on n side g) q)) ≤ 60 * w + 84
       by true = pair_few
       by false = mix_few
 
 -- they are few, beside any kept function
-pub work_few : (n w : ℕ) (side : Side) (kept : Function) (g : Gate) (v : Vector) → IsPlaced g.kind g.extra g.on → length (work_functions w kept (step_for n side g) v) ≤ 64 * (w + 2) + 130
-unfolding work_functions
-work_few n w side kept g v placed = let few = step_few n w side g (bits_of v) placed in omega (arith, few)
+pub work_few : (n w : ℕ) (side : Side) (kept : Function) (g : Gate) (v : Vector) → IsPlaced g.kind g.extra g.on → length (kept ∷ functions_on n side g w (bits_of v)) ≤ 64 * (w + 2) + 130
+work_few n w side kept g v placed = let few = gate_few n w side g (bits_of v) placed in omega (arith, few)
 
 -- ---- enough nodes
 -- below as many functions as c, each by fewer than p nodes

@@ -5,6 +5,7 @@ use Rattle.amp_dense.specs.Rules.{Settings}
 use Rattle.amp_dense.specs.declared.stop.Stop.{Stop}
 use Rattle.amp_dense.specs.declared.stop.Stop.TheVariants.{Width, Nodes, OutOfMemory}
 use Rattle.bit_lists.specs.Orders.{AreVars, IsOrder}
+use Rattle.diagram_model.specs.Bryant.{IsOneOf}
 use Rattle.diagram_model.specs.Functions.{Assignment, Function}
 use Rattle.diagram_model.specs.Size.{size}
 use Rattle.diagram_model.specs.Stores.{Diagram, function_of}
@@ -14,9 +15,11 @@ use Rattle.node_reclaim.specs.Reclaims.{HoldsOnly}
 use Rattle.node_reclaim.proofs.Bound.{size-le, one_some}
 use Rattle.phases.specs.Phases.{HasSomeEnd}
 use Rattle.slice_gates.proofs.Doubles.{doubled_quad}
+use Rattle.slice_quad.specs.declared.kind.Step.{Step}
 use Rattle.slice_quad.specs.declared.quad.SliceQuad.{SliceQuad}
-use Rattle.slice_quad.specs.Mix.{Vector}
-use Rattle.slice_quad.specs.Stepping.{stepped, work_functions, IsStepOn, IsWork}
+use Rattle.slice_quad.specs.Bits.{bits_of}
+use Rattle.slice_quad.specs.Mix.{Vector, Coordinates}
+use Rattle.slice_quad.specs.Stepping.{stepped, step_functions, work_functions, IsStepOn, IsWork}
 use Rattle.slice_quad.specs.Vectors.{vector_in, FitsWidth, Stands}
 use Rattle.step_upkeep.specs.Accepted.{IsAccepted}
 use Rattle.step_upkeep.specs.Chains.{Chain, work_of, InWork, stored_of, needed, IsNextOrder, MayLeave, Proceeds, policy_of}
@@ -42,33 +45,43 @@ pub record Holds {X G : Type 0} (c : Chain X G) (x : X) (rules : Settings) (gate
 abbrev pub standing : {X : Type 0} → {G : Type 0} → X → Settings → List G → StoreAndCache → StandingOf X G
 standing x rules gates d = record { input = x; rules = rules; gates = gates; order = d.store.order }
 
+-- the functions that a gate works with are those of the step s
+abbrev pub HasStep : {X : Type 0} → {G : Type 0} → Chain X G → X → G → Step → Type 0
+HasStep c x g s = (w : ℕ) (q : Coordinates) → c.functions x g w q ≡ step_functions w s q
+
+work_as : {X G : Type 0} (c : Chain X G) (x : X) (g : G) (s : Step) → HasStep c x g s → (w : ℕ) (v : Vector) → work_functions w (c.kept x) s v ≡ c.kept x ∷ c.functions x g w (bits_of v)
+unfolding work_functions
+work_as c x g s is w v = ap (λ (fs : List Function). c.kept x ∷ fs) (sym (is w (bits_of v)))
+
 -- ---- functions
 module _ {X G : Type 0} (c : Chain X G) (x : X) (rules : Settings) (gates : List G) (d : StoreAndCache) (q : SliceQuad) (h : Holds c x rules gates d q) where
   abbrev now : StandingOf X G
   now = standing x rules gates d
 
   -- the work functions of the integers are those of the product, at the width at which it is stored
-  work_is : (g : G) → work_in d.store (c.step x g) q ≡ work_functions (length q.four.a) (c.kept x) (c.step x g) (c.entries x gates)
-  work_is g =
-      ap (λ (f : Function). work_functions (length q.four.a) f (c.step x g) (vector_in d.store q.four)) h.function
-      ∙ ap (λ (v : Vector). work_functions (length q.four.a) (c.kept x) (c.step x g) v) h.vector
+  work_is : (s : Step) → work_in d.store s q ≡ work_functions (length q.four.a) (c.kept x) s (c.entries x gates)
+  work_is s =
+      ap (λ (f : Function). work_functions (length q.four.a) f s (vector_in d.store q.four)) h.function
+      ∙ ap (λ (v : Vector). work_functions (length q.four.a) (c.kept x) s v) h.vector
 
   -- and the width of the rules takes none away, whatever order is in force
-  work_wider : (order : List ℕ) (g : G) (p : Function) → IsPrefixOfSome order (work_in d.store (c.step x g) q) p → IsPrefixOfSome order (work_of c now g) p
-  work_wider order g p is =
-      work_within order p (length q.four.a) rules.width h.narrow (c.kept x) (c.step x g) (c.entries x gates) (subst (λ (fs : List Function). IsPrefixOfSome order fs p) (work_is g) is)
+  work_wider : (order : List ℕ) (g : G) (s : Step) → HasStep c x g s → (p : Function) → IsPrefixOfSome order (work_in d.store s q) p → IsPrefixOfSome order (work_of c now g) p
+  work_wider order g s has p is =
+      let mine = subst (λ (fs : List Function). IsPrefixOfSome order fs p) (work_is s) is in
+      let wider = work_within order p (length q.four.a) rules.width h.narrow (c.kept x) s (c.entries x gates) mine in
+      subst (λ (fs : List Function). IsPrefixOfSome order fs p) (work_as c x g s has rules.width (c.entries x gates)) wider
 
   -- what holds only those of the integers holds only those of the gate
-  pub holds_work : (g : G) (e : Diagram) → HoldsOnly e (IsWork d.store (c.step x g) q) → HoldsOnly e (InWork c now g)
-  holds_work g e all n p at = work_wider d.store.order g (function_of e n) (all n p at)
+  pub holds_work : (g : G) (s : Step) → HasStep c x g s → (e : Diagram) → HoldsOnly e (IsWork d.store s q) → HoldsOnly e (InWork c now g)
+  holds_work g s has e all n p at = work_wider d.store.order g s has (function_of e n) (all n p at)
 
   -- where those of the integers need as many nodes as the limit in an order, those of the gate do
-  pub gate_needs : (g : G) (order : List ℕ) → AreVars (length order) order → d.store.limit ≤ size (length order) order (work_in d.store (c.step x g) q)
+  pub gate_needs : (g : G) (s : Step) → HasStep c x g s → (order : List ℕ) → AreVars (length order) order → d.store.limit ≤ size (length order) order (work_in d.store s q)
       → rules.nodes ≤ needed (in_order now order) (work_of c (in_order now order) g)
-  gate_needs g order vars most =
+  gate_needs g s has order vars most =
       let k = length order in
-      let fs = work_in d.store (c.step x g) q in
-      let le : size k order fs ≤ size k order (work_of c now g) = size-le k k order (work_of c now g) fs vars (λ f is. work_wider order g f (one_some order fs f is)) in
+      let fs = work_in d.store s q in
+      let le : size k order fs ≤ size k order (work_of c now g) = size-le k k order (work_of c now g) fs vars (λ f is. work_wider order g s has f (one_some order fs f is)) in
       let limit = h.limit in
       omega (arith, most, le, limit)
 
@@ -95,15 +108,15 @@ module _ {X G : Type 0} (c : Chain X G) (x : X) (rules : Settings) (gates : List
 
 -- ---- the answer to a gate's step
 module _ {X G : Type 0} (c : Chain X G) (Fits : ℕ → X → List G → G → Type 0) (x : X) (rules : Settings) (gates : List G) (d : StoreAndCache) (q : SliceQuad) (h : Holds c x rules gates d q)
-    (g : G) (accepted : ℕ) (count : accepted ≡ length gates) (e : StoreAndCache) (r : SliceQuad) where
+    (g : G) (s : Step) (has : HasStep c x g s) (accepted : ℕ) (count : accepted ≡ length gates) (e : StoreAndCache) (r : SliceQuad) where
   abbrev before : StandingOf X G
   before = standing x rules gates d
 
   abbrev Answers : Result (Unit {0}) Stop → Type 0
-  Answers answer = IsAccepted rules accepted d e (c.step x g) q r answer
+  Answers answer = IsAccepted rules accepted d e s q r answer
 
   abbrev StepFits : Type 0
-  StepFits = FitsWidth rules.width (stepped (c.step x g) (vector_in d.store q.four))
+  StepFits = FitsWidth rules.width (stepped s (vector_in d.store q.four))
 
   number_is : (number : ℕ) → number ≡ accepted + 1 → number ≡ length gates + 1
   number_is number is = is ∙ ap (λ k. k + 1) count
@@ -119,7 +132,7 @@ module _ {X G : Type 0} (c : Chain X G) (Fits : ℕ → X → List G → G → T
     in_force = tt;
     refused = tt;
     order = next a.order;
-    after_reclaim = λ due not_sifted. holds_work c x rules gates d q h g e.store (a.holds (ap (is_due rules.reclaim) count ∙ due) (ap (is_due rules.sift) count ∙ not_sifted));
+    after_reclaim = λ due not_sifted. holds_work c x rules gates d q h g s has e.store (a.holds (ap (is_due rules.reclaim) count ∙ due) (ap (is_due rules.sift) count ∙ not_sifted));
   }
 
   -- or it stops
@@ -127,8 +140,8 @@ module _ {X G : Type 0} (c : Chain X G) (Fits : ℕ → X → List G → G → T
   stop_told (Width number) a fits = (number_is number a.stops.0, λ fit. a.stops.1 (fits fit))
   stop_told (Nodes number order held) a fits =
       let limit = a.keeps.limit in
-      let most = subst (λ i. i ≤ size (length e.store.order) e.store.order (work_in d.store (c.step x g) q)) limit a.stops.3 in
-      let needs = gate_needs c x rules gates d q h g e.store.order a.keeps.sound.store.diagram.order most in (
+      let most = subst (λ i. i ≤ size (length e.store.order) e.store.order (work_in d.store s q)) limit a.stops.3 in
+      let needs = gate_needs c x rules gates d q h g s has e.store.order a.keeps.sound.store.diagram.order most in (
         number_is number a.stops.0,
         record {
           reordered = subst (IsNextOrder c before) (sym a.stops.1) (next a.order);
@@ -165,13 +178,15 @@ stayed c Fits x rules gates d g sound = record {
 
 -- ---- a gate has an end
 -- where the new entries, as many times doubled as they were halved, are the step's, the gate may be accepted, or be refused for want of nodes
-pub accepted_or_refused : {X G : Type 0} (c : Chain X G) (s : StandingOf X G) (g : G) (n m t : ℕ) → s.rules.width ≡ suc m → AreVars (length s.order) s.order → IsStepOn n (c.step s.input g) → AreIn m (c.entries s.input s.gates)
-    → ((y : Assignment) → doubled_quad t (c.entries s.input (s.gates ++ g ∷ []) y) ≡ stepped (c.step s.input g) (c.entries s.input s.gates) y)
+pub accepted_or_refused : {X G : Type 0} (c : Chain X G) (s : StandingOf X G) (g : G) (u : Step) → HasStep c s.input g u → (n m t : ℕ) → s.rules.width ≡ suc m → AreVars (length s.order) s.order → IsStepOn n u → AreIn m (c.entries s.input s.gates)
+    → ((y : Assignment) → doubled_quad t (c.entries s.input (s.gates ++ g ∷ []) y) ≡ stepped u (c.entries s.input s.gates) y)
     → (needed s (stored_of c (with_gate s g)) ≤ s.rules.nodes) ⊎ (s.rules.nodes ≤ needed s (work_of c s g))
-accepted_or_refused c s g n m t wide vars on narrow halved =
+accepted_or_refused c s g u has n m t wide vars on narrow halved =
     let k = length s.order in
     let stored = stored_of c (with_gate s g) in
-    let among = stored_wanted s.order s.rules.width m t (c.kept s.input) (c.step s.input g) (c.entries s.input s.gates) (c.entries s.input (s.gates ++ g ∷ [])) wide narrow halved n on in
+    let wanted = stored_wanted s.order s.rules.width m t (c.kept s.input) u (c.entries s.input s.gates) (c.entries s.input (s.gates ++ g ∷ [])) wide narrow halved n on in
+    let Among : List Function → Type 0 = λ fs. (f : Function) → IsOneOf stored f → IsPrefixOfSome s.order fs f in
+    let among = subst Among (work_as c s.input g u has s.rules.width (c.entries s.input s.gates)) wanted in
     either_end (needed s stored) (needed s (work_of c s g)) s.rules.nodes (size-le k k s.order (work_of c s g) stored vars among)
 
 -- so it has an end, whatever order is in force before it

@@ -6,7 +6,6 @@ use Rattle.std.proofs.lemmas.List.Elements.{All-map}
 use Rattle.gate_set.specs.declared.entry.Entry.{Entry}
 use Rattle.gate_set.specs.declared.gate.Gate.{Gate}
 use Rattle.gate_set.specs.declared.kind.Kind.{Kind}
-use Rattle.gate_set.specs.declared.kind.Kind.TheVariants.{Id, X, Y, Z, H, S, Sdg, T, Tdg, RxP, RxM, RyP, RyM, Cx, Cz, Swap, Ccx, Cswap, Phase}
 use Rattle.gate_set.specs.Matrix.{arity_of, half_power_of, IsPower, IsKind}
 use Rattle.gate_set.specs.Shape.{IsPlaced, qubits_of}
 use Rattle.gate_set.proofs.MatrixLemmas.{IsPower-entry_of}
@@ -18,35 +17,10 @@ use Rattle.slice_gates.specs.Shown.{first_values, AgreeBelow}
 use Rattle.slice_gates.specs.Sides.{place_on, entry_on}
 use Rattle.slice_gates.specs.Stepped.{exchanges, HaveControls, IsStepOf, step_for}
 use Rattle.slice_gates.proofs.Controls.{controls_begin, controls_more}
+use Rattle.slice_gates.proofs.GateWorks.{rows_of_kind}
 use Rattle.slice_gates.proofs.Made.{IsEntryAt, HasEntries, target_made, exchange_made, step_made}
 
 -- ---- the step
--- some qubit is the target, and the last two rows are the last two
-pub record HasRows (k : Kind) : Type 0 where
-  pub some : 1 ≤ arity_of k
-  pub last : 2 ^ arity_of k - 2 + 2 ≡ 2 ^ arity_of k
-
-rows_of_kind : (k : Kind) → HasRows k
-rows_of_kind Id = record { some = omega arith; last = refl }
-rows_of_kind X = record { some = omega arith; last = refl }
-rows_of_kind Y = record { some = omega arith; last = refl }
-rows_of_kind Z = record { some = omega arith; last = refl }
-rows_of_kind H = record { some = omega arith; last = refl }
-rows_of_kind S = record { some = omega arith; last = refl }
-rows_of_kind Sdg = record { some = omega arith; last = refl }
-rows_of_kind T = record { some = omega arith; last = refl }
-rows_of_kind Tdg = record { some = omega arith; last = refl }
-rows_of_kind RxP = record { some = omega arith; last = refl }
-rows_of_kind RxM = record { some = omega arith; last = refl }
-rows_of_kind RyP = record { some = omega arith; last = refl }
-rows_of_kind RyM = record { some = omega arith; last = refl }
-rows_of_kind Cx = record { some = omega arith; last = refl }
-rows_of_kind Cz = record { some = omega arith; last = refl }
-rows_of_kind Swap = record { some = omega arith; last = refl }
-rows_of_kind Ccx = record { some = omega arith; last = refl }
-rows_of_kind Cswap = record { some = omega arith; last = refl }
-rows_of_kind (Phase j) = record { some = omega arith; last = refl }
-
 -- each entry is one of the kind's, on columns that of the transposed matrix
 entry_power : (side : Side) (k : Kind) (row col : ℕ) → IsKind k → IsPower (entry_on side k row col)
 entry_power State k row col h = IsPower-entry_of k row col h

@@ -13,7 +13,8 @@ use Rattle.slice_vec.proofs.DigitLemmas.{twice, value_same}
 use Rattle.slice_vec.proofs.Ranges.{value-shifted}
 use Rattle.slice_quad.specs.declared.coord.Coord.{Coord}
 use Rattle.slice_quad.specs.declared.coord.Coord.TheVariants.{A, B, C, D}
-use Rattle.slice_quad.specs.Bits.{is_odd, half_down, int_bit, bits_of}
+use Rattle.slice_quad.specs.Bits.{int_bit, bits_of}
+use Rattle.slice_quad.proofs.BitLemmas.{is_odd, half_down, bit_down, bit_is}
 use Rattle.slice_quad.specs.Mix.{Vector, vector_of}
 use Rattle.slice_quad.specs.Settled.{doubled}
 use Rattle.slice_quad.specs.Turns.{coordinate}
@@ -71,22 +72,22 @@ halves_in m v h =
     record { low = r.0; high = r.1 }
 
 -- 0 and -1 have all bits alike
-of_zero : (i : ℕ) → int_bit i (pos 0) ≡ false
-unfolding int_bit
+of_zero : (i : ℕ) → bit_down i (pos 0) ≡ false
+unfolding bit_down
 of_zero zero = refl
 of_zero (suc i) = of_zero i
 
-of_minus_one : (i : ℕ) → int_bit i (negsuc 0) ≡ true
-unfolding int_bit
+of_minus_one : (i : ℕ) → bit_down i (negsuc 0) ≡ true
+unfolding bit_down
 of_minus_one zero = refl
 of_minus_one (suc i) = of_minus_one i
 
 -- the bits of an integer, everywhere
 abbrev constant_bits : ℤ → Digits
-constant_bits v i x = int_bit i v
+constant_bits v i x = bit_down i v
 
 one_bit : (v : ℤ) (x : Assignment) → IsIn 0 v → slice_value 0 (constant_bits v) x ≡ v
-unfolding slice_value low_sum int_bit
+unfolding slice_value low_sum bit_down
 one_bit (pos zero) x h = omega (arith, ints)
 one_bit (pos (suc n)) x h = absurd (omega (arith, ints, h.high))
 one_bit (negsuc zero) x h = omega (arith, ints)
@@ -94,22 +95,22 @@ one_bit (negsuc (suc n)) x h = absurd (omega (arith, ints, h.low))
 
 -- they stand for it
 value_is : (m : ℕ) (v : ℤ) (x : Assignment) → IsIn m v → slice_value m (constant_bits v) x ≡ v
-unfolding shifted int_bit
+unfolding shifted bit_down
 value_is zero v x h = one_bit v x h
 value_is (suc m) v x h =
     let half = value_is m (half_down v) x (halves_in m v h) in
     let rest : slice_value m (shifted (constant_bits v)) x ≡ half_down v = rest_is half in
-    value-shifted m (constant_bits v) x ∙ ap (λ (z : ℤ). pos (number (int_bit 0 v)) +ℤ (z +ℤ z)) rest ∙ first
+    value-shifted m (constant_bits v) x ∙ ap (λ (z : ℤ). pos (number (bit_down 0 v)) +ℤ (z +ℤ z)) rest ∙ first
   where
     rest_is : slice_value m (constant_bits (half_down v)) x ≡ half_down v → slice_value m (shifted (constant_bits v)) x ≡ half_down v
     rest_is e = e
 
-    first : pos (number (int_bit 0 v)) +ℤ (half_down v +ℤ half_down v) ≡ v
+    first : pos (number (bit_down 0 v)) +ℤ (half_down v +ℤ half_down v) ≡ v
     first = sym (halving v)
 
 -- from the sign on they are all alike
-steady_is : (m i : ℕ) (v : ℤ) → IsIn m v → m ≤ i → int_bit (suc i) v ≡ int_bit i v
-unfolding int_bit
+steady_is : (m i : ℕ) (v : ℤ) → IsIn m v → m ≤ i → bit_down (suc i) v ≡ bit_down i v
+unfolding bit_down
 steady_is zero i (pos zero) h le = of_zero (suc i) ∙ sym (of_zero i)
 steady_is zero i (pos (suc n)) h le = absurd (omega (arith, ints, h.high))
 steady_is zero i (negsuc zero) h le = of_minus_one (suc i) ∙ sym (of_minus_one i)
@@ -122,14 +123,17 @@ half_twice : (z v : ℤ) → v ≡ z +ℤ z → half_down v ≡ z
 half_twice z (pos n) e = omega (arith, ints, e)
 half_twice z (negsuc n) e = omega (arith, ints, e)
 
-pub doubled_bit : (t i : ℕ) (v : ℤ) → int_bit (i + t) (doubled t v) ≡ int_bit i v
-unfolding doubled int_bit
-doubled_bit zero i v = ap (λ k. int_bit k v) (let e : i + 0 ≡ i = omega arith in e)
-doubled_bit (suc t) i v =
-    ap (λ k. int_bit k (doubled t (v +ℤ v))) (let e : i + suc t ≡ suc i + t = omega arith in e) ∙ doubled_bit t (suc i) (v +ℤ v) ∙ once
+doubled_down : (t i : ℕ) (v : ℤ) → bit_down (i + t) (doubled t v) ≡ bit_down i v
+unfolding doubled bit_down
+doubled_down zero i v = ap (λ k. bit_down k v) (let e : i + 0 ≡ i = omega arith in e)
+doubled_down (suc t) i v =
+    ap (λ k. bit_down k (doubled t (v +ℤ v))) (let e : i + suc t ≡ suc i + t = omega arith in e) ∙ doubled_down t (suc i) (v +ℤ v) ∙ once
   where
-    once : int_bit (suc i) (v +ℤ v) ≡ int_bit i v
-    once = ap (int_bit i) (half_twice v (v +ℤ v) refl)
+    once : bit_down (suc i) (v +ℤ v) ≡ bit_down i v
+    once = ap (bit_down i) (half_twice v (v +ℤ v) refl)
+
+pub doubled_bit : (t i : ℕ) (v : ℤ) → int_bit (i + t) (doubled t v) ≡ int_bit i v
+doubled_bit t i v = bit_is (i + t) (doubled t v) ∙ doubled_down t i v ∙ sym (bit_is i v)
 
 -- ---- vectors
 -- each coefficient is a signed number of m + 1 bits
@@ -138,7 +142,7 @@ AreIn m v = (z : Coord) (x : Assignment) → IsIn m (coordinate z (v x))
 
 pub steady_vector : (m : ℕ) (v : Vector) → AreIn m v → (z : Coord) → IsSteady m (bits_of v z)
 unfolding bits_of
-steady_vector m v h z i le = fun_ext (λ x. steady_is m i (coordinate z (v x)) (h z x) le)
+steady_vector m v h z i le = fun_ext (λ x. bit_is (suc i) (coordinate z (v x)) ∙ steady_is m i (coordinate z (v x)) (h z x) le ∙ sym (bit_is i (coordinate z (v x))))
 
 coordinates_same : (p q : Quad) → ((z : Coord) → coordinate z p ≡ coordinate z q) → p ≡ q
 coordinates_same p q h = quad_eq p q (h A) (h B) (h C) (h D)
@@ -148,7 +152,7 @@ unfolding bits_of
 vector_back m v h = fun_ext (λ x. coordinates_same (vector_of m (bits_of v) x) (v x) (λ z. coordinate-vector m (bits_of v) z x ∙ at z x))
   where
     at : (z : Coord) (x : Assignment) → slice_value m (bits_of v z) x ≡ coordinate z (v x)
-    at z x = value_same m (bits_of v z) (constant_bits (coordinate z (v x))) x (λ i. refl) ∙ value_is m (coordinate z (v x)) x (h z x)
+    at z x = value_same m (bits_of v z) (constant_bits (coordinate z (v x))) x (λ i. bit_is i (coordinate z (v x))) ∙ value_is m (coordinate z (v x)) x (h z x)
 
 pub fits_in : (w m : ℕ) (v : Vector) → w ≡ suc m → FitsWidth w v → AreIn m v
 fits_in w m v e h z x =

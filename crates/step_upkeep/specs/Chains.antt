@@ -1,5 +1,5 @@
 -- Products that are kept as integers over decision diagrams: the functions that a gate works with, and when it may be accepted or refused.
-use Rattle.std.specs.Prelude.{◌≡◌, ◌≤◌, ℕ, true, false, List, length, Result, IfErr, OnOk, OnErr}
+use Rattle.std.specs.Prelude.{◌≡◌, ◌≤◌, ℕ, true, false, List, ◌∷◌, length, Result, IfErr, OnOk, OnErr}
 use Rattle.amp_dense.specs.Chains.{StandingOf, PolicyOf, in_order, with_gate, AcceptsWhere, AppliesWhere, MayStop, NamesOrder, Reorders}
 use Rattle.amp_dense.specs.declared.stop.Stop.{Stop}
 use Rattle.diagram_model.specs.Functions.{Function}
@@ -7,23 +7,22 @@ use Rattle.diagram_model.specs.Size.{size}
 use Rattle.diagram_model.specs.Stores.{Diagram}
 use Rattle.diagram_ops.specs.Made.{Property, IsPrefixOfSome}
 use Rattle.node_reclaim.specs.Reclaims.{HoldsOnly}
-use Rattle.slice_quad.specs.declared.kind.Step.{Step}
-use Rattle.slice_quad.specs.Mix.{Vector}
-use Rattle.slice_quad.specs.Stepping.{work_functions}
+use Rattle.slice_quad.specs.Bits.{bits_of}
+use Rattle.slice_quad.specs.Mix.{Vector, Coordinates}
 use Rattle.step_upkeep.specs.Due.{is_due, IsInForce, IsLeft}
 use Rattle.step_upkeep.specs.Stored.{stored_functions}
 
 -- a kind of products, by its input: the function that is kept beside a product, its entries after these gates by the values of the variables, and the
--- step on the variables that a gate is
+-- functions that a gate works with on coordinates of so many bits
 pub record Chain (X G : Type 0) : Type 0 where
   pub kept : X → Function
   pub entries : X → List G → Vector
-  pub step : X → G → Step
+  pub functions : X → G → ℕ → Coordinates → List Function
 
 -- the work functions of a gate, with coefficients as wide as the rules let them be: where they are narrower, the bits more are the sign again, which
 -- adds no function
 abbrev pub work_of : {X G : Type 0} → Chain X G → StandingOf X G → G → List Function
-work_of c s g = work_functions s.rules.width (c.kept s.input) (c.step s.input g) (c.entries s.input s.gates)
+work_of c s g = c.kept s.input ∷ c.functions s.input g s.rules.width (bits_of (c.entries s.input s.gates))
 
 -- a function that arises from one of those, by fixing a prefix of the order in force
 abbrev pub InWork : {X G : Type 0} → Chain X G → StandingOf X G → G → Property

@@ -37,12 +37,13 @@ use Rattle.slice_gates.specs.Sides.{woven, place_on}
 use Rattle.slice_gates.specs.Stepped.{IsStepOf}
 use Rattle.slice_gates.proofs.Agreeing.{length-first_values, at_list, vector-reads, stepped-reads}
 use Rattle.slice_gates.proofs.Diagonal.{woven_diagonal}
+use Rattle.slice_gates.proofs.GateWorks.{functions_same}
 use Rattle.slice_gates.proofs.MatrixShown.{left_shown, right_shown, matrix_shown, matrix_fits, matrix_fits_from}
 use Rattle.slice_gates.proofs.Moved.{length-woven, take_front, drop_front}
 use Rattle.slice_gates.proofs.Shown.{few_halves}
 use Rattle.step_upkeep.specs.Accepted.{IsAccepted}
 use Rattle.step_upkeep.specs.Upkept.{KeepsQuad}
-use Rattle.step_upkeep.proofs.Products.{Holds, proceeded, stood}
+use Rattle.step_upkeep.proofs.Products.{HasStep, Holds, proceeded, stood}
 use Rattle.step_upkeep.proofs.StepFor.{step_is}
 use Rattle.unitary_update.specs.declared.accepted.MatrixStep.{MatrixStep}
 use Rattle.unitary_update.specs.declared.accepted.MatrixStep.TheVariants.{Left, Right}
@@ -193,6 +194,11 @@ holds s h = record {
 }
 
 -- ---- a step
+-- the functions that it works with are those of the step on variables
+pub sided_functions : (n : ℕ) (t : Step) → HasStep matrix_chain n t (sliced_step n t)
+sided_functions n (left g) = functions_same (2 * n) Rows g
+sided_functions n (right g) = functions_same (2 * n) Columns g
+
 -- the step u on variables, which is the step t, came or stopped
 module _ (s : State) (t : Step) (u : SlicedStep) (v : StoreAndCache) (r : SliceQuad) (accepted : ℕ) (h : IsKept s) (on : IsOn s.qubits (gate_of t)) (is : IsSided s.qubits t u) (count : accepted ≡ length s.steps) where
   abbrev Told : Result (Unit {0}) Stop → Type 0
@@ -241,12 +247,12 @@ module _ (s : State) (t : Step) (u : SlicedStep) (v : StoreAndCache) (r : SliceQ
 
   pub step_came : length s.steps < 2000000 → Told (Ok tt) → Steps s t (Ok tt) (state_with s.qubits s.rules (s.steps ++ t ∷ []) v r)
   step_came few told =
-      proceeded matrix_chain RawStepFits s.qubits s.rules s.steps s.diagrams s.quad (holds s h) t accepted count v r (own (Ok tt) told)
+      proceeded matrix_chain RawStepFits s.qubits s.rules s.steps s.diagrams s.quad (holds s h) t (sliced_step s.qubits t) (sided_functions s.qubits t) accepted count v r (own (Ok tt) told)
       (fits_shown s.qubits s.diagrams.store s.quad (work_matrix s.qubits s.steps) t h.shows on s.rules.width) (holds (state_with s.qubits s.rules (s.steps ++ t ∷ []) v r) (kept_next few told))
 
   pub step_stopped : (stop : Stop) → Told (Err stop) → Steps s t (Err stop) (state_with s.qubits s.rules s.steps v r)
   step_stopped stop told =
-      stood matrix_chain RawStepFits s.qubits s.rules s.steps s.diagrams s.quad (holds s h) t accepted count v r stop (own (Err stop) told)
+      stood matrix_chain RawStepFits s.qubits s.rules s.steps s.diagrams s.quad (holds s h) t (sliced_step s.qubits t) (sided_functions s.qubits t) accepted count v r stop (own (Err stop) told)
       (fits_from s.qubits s.diagrams.store s.quad (work_matrix s.qubits s.steps) t h.shows on s.rules.width h.sound.store h.variables)
 
 -- ---- what is read

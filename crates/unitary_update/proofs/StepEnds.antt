@@ -30,7 +30,7 @@ use Rattle.step_upkeep.proofs.StepFor.{values_agree}
 use Rattle.step_upkeep.proofs.StoredAfter.{fits_halved, halved_out, values_in, unit_fits}
 use Rattle.step_upkeep.proofs.Values.{AreIn}
 use Rattle.unitary_update.specs.Kept.{Standing, matrix_chain, sliced_step, by_variables}
-use Rattle.unitary_update.proofs.MatrixLemmas.{sided_is, sided_within, values_same, woven_values}
+use Rattle.unitary_update.proofs.MatrixLemmas.{sided_is, sided_functions, sided_within, values_same, woven_values}
 
 -- ---- the matrix over the variables
 abbrev row : ℕ → Assignment → List Bool
@@ -120,7 +120,7 @@ accepted_or_refused s t m wide vars on fits =
     let IsDoubled : Scaled → ℕ → Type 0 = λ u k. (x : Assignment) → doubled_quad k (by_variables n (by_position u.entries) x) ≡ stepped (sliced_step n t) (by_variables n (by_position w.entries)) x in
     let out = taken_out n t w on in
     let halved : IsDoubled (work_matrix n (s.gates ++ t ∷ [])) out.0 = subst (λ u. IsDoubled u out.0) (sym (work_matrix-last n s.gates t)) out.1 in
-    product_end matrix_chain s t (2 * n) m out.0 wide vars (sided_within n t (sliced_step n t) (sided_is n t on)) (in_bits n s.rules.width m w wide fits) halved
+    product_end matrix_chain s t (sliced_step n t) (sided_functions n t) (2 * n) m out.0 wide vars (sided_within n t (sliced_step n t) (sided_is n t on)) (in_bits n s.rules.width m w wide fits) halved
 
 -- ---- the coefficients fit on
 -- after a step that fits

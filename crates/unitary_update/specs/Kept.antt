@@ -9,14 +9,16 @@ use Rattle.amp_dense.specs.Chains.{StandingOf, AcceptsWhere, AppliesWhere}
 use Rattle.amp_dense.specs.declared.stop.Stop.{Stop}
 use Rattle.amp_dense.specs.declared.stop.Stop.TheVariants.{Nodes}
 use Rattle.amp_dense.specs.Rules.{Settings}
+use Rattle.diagram_model.specs.Functions.{Function}
 use Rattle.diagram_model.specs.Stores.{Diagram}
 use Rattle.diagram_ops.specs.Diagrams.{StoreAndCache, IsConsistent}
 use Rattle.slice_quad.specs.declared.kind.Step.{Step as SlicedStep}
 use Rattle.slice_quad.specs.declared.quad.SliceQuad.{SliceQuad}
-use Rattle.slice_quad.specs.Mix.{Vector}
+use Rattle.slice_quad.specs.Mix.{Vector, Coordinates}
 use Rattle.slice_quad.specs.RowsColumns.{row_equals_column, KeepsRowEqualsColumn}
 use Rattle.slice_quad.specs.Vectors.{Stands}
 use Rattle.slice_gates.specs.declared.side.Side.TheVariants.{Rows, Columns}
+use Rattle.slice_gates.specs.GateWork.{functions_on}
 use Rattle.slice_gates.specs.Shown.{first_values, IsMatrixShown}
 use Rattle.slice_gates.specs.Sides.{place_on}
 use Rattle.slice_gates.specs.Stepped.{step_for}
@@ -30,7 +32,12 @@ abbrev pub step_in : MatrixStep → Step
 step_in (Left g) = left g
 step_in (Right g) = right g
 
--- on which variables it acts: a step from the left on those of the rows, and one from the right, transposed, on those of the columns
+-- the functions that it works with: a step from the left acts on the variables of the rows, and one from the right, transposed, on those of the columns
+abbrev pub functions_by : ℕ → Step → ℕ → Coordinates → List Function
+functions_by n (left g) = functions_on (2 * n) Rows g
+functions_by n (right g) = functions_on (2 * n) Columns g
+
+-- the step on variables that it is
 abbrev pub sliced_step : ℕ → Step → SlicedStep
 sliced_step n (left g) = step_for (2 * n) Rows g
 sliced_step n (right g) = step_for (2 * n) Columns g
@@ -46,7 +53,7 @@ by_variables n m x = m (first_values n (λ q. x (place_on Rows q))) (first_value
 
 -- the working matrix over the variables, beside "row equals column"
 abbrev pub matrix_chain : Chain ℕ Step
-matrix_chain = record { kept = row_equals_column; entries = λ n steps. by_variables n (by_position (work_matrix n steps).entries); step = sliced_step }
+matrix_chain = record { kept = row_equals_column; entries = λ n steps. by_variables n (by_position (work_matrix n steps).entries); functions = functions_by }
 
 -- what a matrix stands by: the number of qubits, the rules, the steps accepted so far, and the order of variables in force
 abbrev pub Standing : Type 0
