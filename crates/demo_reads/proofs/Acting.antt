@@ -30,7 +30,7 @@ spot i = record { first = i; size = None }
 
 -- what a call's line does
 abbrev pub line_act : Call → Act
-line_act c = applies (one 0 (kind_in (builtin c.name)) ∷ []) (map spot c.on)
+line_act c = applies 0 (one 0 (kind_in (builtin c.name)) ∷ []) (map spot c.on)
 
 -- what the version, the include and the register do
 abbrev pub head_acts : ℕ → List Act

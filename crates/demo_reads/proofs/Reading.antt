@@ -26,7 +26,7 @@ use Rattle.qasm_reader.specs.Reading.{Accepts, AllAccepted, Reads, ReadsAs, circ
 use Rattle.demo_text.specs.Generator.{Call, call, name_at, kinds, drawn, next, arity, qubits_drawn, call_drawn, after_call, calls_drawn, first_calls, demo_calls, demo_text}
 use Rattle.demo_reads.specs.Drawn.{kind_in, gate_of, drawn_circuit}
 use Rattle.demo_reads.proofs.Acting.{closed_part, demo_statements, head_acts, demo_acts, HasStatements}
-use Rattle.demo_reads.proofs.Accepting.{Harmless, free_of, none_refused, no_call, Known, IsCall, accept_calls, known_calls}
+use Rattle.demo_reads.proofs.Accepting.{Harmless, free_of, Known, IsCall, accept_calls, known_calls}
 use Rattle.demo_reads.proofs.Lines.{all_at, drawn_below, kinds_few}
 
 -- the names are those of gates
@@ -265,14 +265,16 @@ accept_version = accept 64 [] version nothing (record {
   started = λ e. refl;
   profile = refl;
   name = refl;
-  fresh = refl;
+  fresh = λ d. d;
   register = refl;
   range = refl;
   count = refl;
   sizes = λ d. d;
   once = λ d. d;
-  angle = none_refused;
-  grid = no_call;
+  deep = omega arith;
+  items = λ n e. absurd (cc);
+  angle = λ e d. d;
+  grid = λ d. d;
   gone = λ d. d;
   qubits = λ act does. rw does (omega arith);
   gates = λ act does. rw does (omega arith);
@@ -286,14 +288,16 @@ accept_include = accept 64 (nothing ∷ []) (include file) nothing (record {
   started = λ e. absurd (cc);
   profile = refl;
   name = refl;
-  fresh = refl;
+  fresh = λ d. d;
   register = refl;
   range = refl;
   count = refl;
   sizes = λ d. d;
   once = λ d. d;
-  angle = none_refused;
-  grid = no_call;
+  deep = omega arith;
+  items = λ n e. absurd (cc);
+  angle = λ e d. d;
+  grid = λ d. d;
   gone = λ d. d;
   qubits = λ act does. rw does (omega arith);
   gates = λ act does. rw does (omega arith);
@@ -313,14 +317,16 @@ accept_register q some le =
       started = λ e. absurd (cc);
       profile = refl;
       name = refl;
-      fresh = refl;
+      fresh = λ e. (let q : false ≡ true = e in absurd (cc));
       register = refl;
       range = ap (λ n. no_size n || (false || false)) back ∙ size_ok q some le;
       count = refl;
       sizes = λ d. d;
       once = λ d. d;
-      angle = none_refused;
-      grid = no_call;
+      deep = omega arith;
+      items = λ n e. absurd (cc);
+      angle = λ e d. d;
+      grid = λ d. d;
       gone = λ d. d;
       qubits = λ act does. rw does (omega (arith, back, le));
       gates = λ act does. rw does (omega arith);
@@ -328,7 +334,7 @@ accept_register q some le =
 
 -- what is known before the first call
 known_start : (q : ℕ) → Known q [] (head_acts q)
-known_start q = record { some = λ e. absurd (cc); registers = refl; measured = refl; qubits = omega arith; gates = refl }
+known_start q = record { some = λ e. absurd (cc); registers = refl; measured = refl; qubits = omega arith; gates = refl; defined = refl; items = refl }
 
 all_accepted : (q n seed : ℕ) → 1 ≤ q → q ≤ 64 → n ≤ 500000 → AllAccepted 64 [] (map closed_part (demo_statements q n seed)) (demo_acts q n seed)
 all_accepted q n seed some le few =

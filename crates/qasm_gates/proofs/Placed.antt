@@ -83,7 +83,7 @@ placed_item on js n kind e =
     ∙ ap (λ xs. gate xs (map f (take n js))) (sym (drop-map f n js)) ∙ ap (gate (drop n (map f js))) (sym (take-map f n js))
     ∙ sym (placed_one n kind (map f js) (length-map js f ∙ e))
 
-placed_items : (on js : List ℕ) (n : ℕ) (kind : Kind) (times : ℕ) → length js ≡ n + arity_of kind → map (placed on) (map (item_on js) (replicate times (one n kind))) ≡ map (placed (pick on js)) (replicate times (one n kind))
+pub placed_items : (on js : List ℕ) (n : ℕ) (kind : Kind) (times : ℕ) → length js ≡ n + arity_of kind → map (placed on) (map (item_on js) (replicate times (one n kind))) ≡ map (placed (pick on js)) (replicate times (one n kind))
 placed_items on js n kind zero e = refl
 placed_items on js n kind (suc times) e =
     ap (λ g. g ∷ map (placed on) (map (item_on js) (replicate times (one n kind)))) (placed_item on js n kind e)

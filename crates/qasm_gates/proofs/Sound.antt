@@ -19,7 +19,7 @@ use Rattle.qasm_gates.specs.Private.Proper.{IsPositive, HasPositive, GivesPositi
 use Rattle.qasm_gates.proofs.Builtins.{found_holds}
 use Rattle.qasm_gates.proofs.Good.{IsProperCall, ok_mapped, joined_ok, builtin_good, body_good}
 
-led_ok : {A : Type 0} (r : Result A AngleRefusal) (rest : Result (List A) AngleRefusal) (xs : List A) → led r rest ≡ Ok xs → (a : A) × (more : List A) × (r ≡ Ok a) × (rest ≡ Ok more) × (a ∷ more ≡ xs)
+pub led_ok : {A : Type 0} (r : Result A AngleRefusal) (rest : Result (List A) AngleRefusal) (xs : List A) → led r rest ≡ Ok xs → (a : A) × (more : List A) × (r ≡ Ok a) × (rest ≡ Ok more) × (a ∷ more ≡ xs)
 led_ok (Ok a) (Ok more) xs e = (a, more, refl, refl, (let q : a ∷ more ≡ xs = cc e in q))
 led_ok (Ok a) (Err x) xs e = absurd cc
 led_ok (Err x) rest xs e = absurd cc

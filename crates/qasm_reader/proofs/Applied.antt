@@ -1,14 +1,11 @@
 -- Gates place by place.
-use Rattle.std.proofs.Common.{◌≡◌, ◌∙◌, sym, ap, subst, ◌≤◌, ◌<◌, ℕ, suc, ◌+◌, List, [], ◌∷◌, ◌++◌, length, map, get_or, take, drop, All, arith, length-append}
+use Rattle.std.proofs.Common.{◌≡◌, ◌∙◌, ap, ◌<◌, ℕ, suc, ◌+◌, List, [], ◌∷◌, ◌++◌, length, map, get_or, All, arith}
 use Rattle.std.specs.List.{flat_map}
-use Rattle.std.proofs.lemmas.List.{append-nil, length-map, take-append-drop}
+use Rattle.std.proofs.lemmas.List.{append-nil, length-map}
 use Rattle.std.proofs.Math.ListN.{get_or-map}
 use Rattle.std.proofs.lemmas.List.Elements.{All-get_or}
 use Rattle.std.proofs.lemmas.Grind.{flat_map-append}
-use Rattle.gate_set.specs.declared.kind.Kind.{Kind}
 use Rattle.gate_set.specs.declared.gate.Gate.{Gate}
-use Rattle.gate_set.specs.Shape.{IsPlaced}
-use Rattle.gate_set.proofs.MatrixLemmas.{arity_of-few}
 use Rattle.qasm_reader.specs.declared.registers.Target.{Target as Place}
 use Rattle.qasm_gates.specs.Gates.{Item, up_to, placed}
 use Rattle.qasm_reader.specs.Acts.{Target, qubit_at, qubits_at}
@@ -27,17 +24,6 @@ product_next items ts place next e =
     ap (product_up_to items ts) s
     ∙ flat_map-append (λ place. map (placed (qubits_at ts place)) items) (up_to place) (place ∷ [])
     ∙ ap (λ r. product_up_to items ts place ++ r) (append-nil _)
-
--- a gate has few arguments, and each qubit of it is small
-pub placed_few : (n : ℕ) (kind : Kind) (ts : List Place) (place : ℕ) → IsPlaced kind (take n (qubits_at (seen_targets ts) place)) (drop n (qubits_at (seen_targets ts) place)) → length ts ≤ 11
-placed_few n kind ts place p =
-    let qs = qubits_at (seen_targets ts) place in
-    let c = p.count in let w = p.few in let l = length-map (seen_targets ts) (qubit_at place) in let m = length-map ts seen_target in let f = arity_of-few kind in
-    let j : length (take n qs) + length (drop n qs) ≡ length qs = sym (length-append (take n qs) (drop n qs)) ∙ ap length (take-append-drop n qs) in
-    omega arith
-
-pub placed_small : (n : ℕ) (kind : Kind) (qs : List ℕ) → IsPlaced kind (take n qs) (drop n qs) → All (λ q. q < 64) qs
-placed_small n kind qs p = subst (All (λ q. q < 64)) (take-append-drop n qs) p.small
 
 -- each qubit of a gate is small
 pub small_at : (ts : List Place) (place i : ℕ) (d : Place) → i < length ts → All (λ q. q < 64) (qubits_at (seen_targets ts) place) → qubit_at place (seen_target (get_or ts i d)) < 64

@@ -6,13 +6,14 @@ use Rattle.std.proofs.lemmas.Bool.{cases_lt, cases_order, eq-eqb, ne_eqb, or_rig
 use Rattle.std.proofs.lemmas.List.{length-map, length-replicate, length-set, map-append, get_or-map, get_or_past, get_or_append_left, get_or_at, set_past, set_at, set-append_left, append-nil}
 use Rattle.std.proofs.lemmas.List.Elements.{All-append, All-nil, All-map, All-push, All-weaker, All-head, All-tail}
 use Rattle.std.proofs.lemmas.List.Folds.{list_any-append, list_any_none}
+use Rattle.std.proofs.lemmas.List.Sums.{sum_by-append}
 use Rattle.std.proofs.lemmas.Grind.{flat_map-append}
 use Rattle.gate_set.specs.declared.gate.Gate.{Gate}
 use Rattle.gate_set.specs.Shape.{IsOn}
 use Rattle.qasm_gates.specs.Gates.{Item, up_to, placed}
-use Rattle.qasm_reader.specs.Acts.{Act, nothing, declares, measures, applies, Register, Target, qubits_in, qubit_count, registers_in, registers_from, registers, place_count, qubit_at, qubits_at, product, gates_in, gates, qubits_of, measured_in, measured, is_among}
+use Rattle.qasm_reader.specs.Acts.{Act, nothing, declares, measures, applies, Register, Target, qubits_in, qubit_count, registers_in, registers_from, registers, place_count, qubit_at, qubits_at, product, gates_in, gates, items_in, item_count, defined_in, definitions, qubits_of, measured_in, measured, is_among}
 use Rattle.qasm_reader.specs.Private.Scope.{flagged}
-use Rattle.qasm_reader.specs.Private.Drafts.{Draft, EndsWithin, IsDraft, draft_of, Follows, with_qubits, with_bits, raised, with_measured, with_gates}
+use Rattle.qasm_reader.specs.Private.Drafts.{Draft, EndsWithin, IsDraft, draft_of, AreSound, Follows, with_qubits, with_bits, raised, with_measured, with_gates}
 use Rattle.qasm_gates.proofs.Placed.{replicate_next}
 use Rattle.std.proofs.Math.Bool.{or-false}
 
@@ -57,6 +58,12 @@ registers_more before a = registers_from_more [] before a
 
 pub gates_more : (before : List Act) (a : Act) → gates (before ++ a ∷ []) ≡ gates before ++ gates_in a
 gates_more before a = flat_map-append gates_in before (a ∷ []) ∙ ap (λ r. gates before ++ r) (append-nil (gates_in a))
+
+pub item_count_more : (before : List Act) (a : Act) → item_count (before ++ a ∷ []) ≡ item_count before + items_in a
+item_count_more before a = let e = sum_by-append items_in before (a ∷ []) in omega arith
+
+pub definitions_more : (before : List Act) (a : Act) → definitions (before ++ a ∷ []) ≡ definitions before ++ defined_in a
+definitions_more before a = flat_map-append defined_in before (a ∷ []) ∙ ap (λ r. definitions before ++ r) (append-nil (defined_in a))
 
 pub measured_more : (before : List Act) (a : Act) → measured (before ++ a ∷ []) ≡ measured before ++ measured_in a
 measured_more before a = flat_map-append measured_in before (a ∷ []) ∙ ap (λ r. measured before ++ r) (append-nil (measured_in a))
@@ -145,7 +152,7 @@ all_product P items ts h =
 
 ends_more : (n m : ℕ) → n ≤ m → (rs : List (List ℕ × Register)) → AllByRecursion (EndsWithin n) rs → AllByRecursion (EndsWithin m) rs
 ends_more n m h [] a = tt
-ends_more n m h (r ∷ rs) a = (λ e. (let l = a.0 e in omega arith), ends_more n m h rs a.1)
+ends_more n m h (r ∷ rs) a = (λ e. (let l = (a.0 e).1 in ((a.0 e).0, omega arith)), ends_more n m h rs a.1)
 
 ends_push : (n : ℕ) (rs : List (List ℕ × Register)) (r : List ℕ × Register) → AllByRecursion (EndsWithin n) rs → EndsWithin n r → AllByRecursion (EndsWithin n) (rs ++ r ∷ [])
 ends_push n [] r a h = (h, tt)
@@ -154,13 +161,15 @@ ends_push n (x ∷ rs) r a h = (a.0, ends_push n rs r a.1 h)
 on_more : (n m : ℕ) → n ≤ m → (g : Gate) → IsOn n g → IsOn m g
 on_more n m h g p = record { placed = p.placed; below = All-weaker (λ q. q < n) (λ q. q < m) (λ q l. omega arith) (g.extra ++ g.on) p.below }
 
-abbrev draft : List (List ℕ × Register) → ℕ → List Gate → List Bool → Draft
-draft r q g m = record { registers = r; qubits = q; gates = g; measured = m }
+abbrev draft : List (List ℕ × Register) → ℕ → List Gate → List Bool → ℕ → Draft
+draft r q g m n = record { registers = r; qubits = q; gates = g; measured = m; items = n }
 
-draft_is : (d : Draft) (acts : List Act) → d.registers ≡ registers acts → d.qubits ≡ qubit_count acts → d.gates ≡ gates acts → d.measured ≡ map (is_among (measured acts)) (up_to (qubit_count acts)) → d ≡ draft_of acts
-draft_is d acts r q g m =
-    ap (λ x. draft x d.qubits d.gates d.measured) r ∙ ap (λ x. draft (registers acts) x d.gates d.measured) q
-    ∙ ap (λ x. draft (registers acts) (qubit_count acts) x d.measured) g ∙ ap (λ x. draft (registers acts) (qubit_count acts) (gates acts) x) m
+draft_is : (d : Draft) (acts : List Act) → d.registers ≡ registers acts → d.qubits ≡ qubit_count acts → d.gates ≡ gates acts → d.measured ≡ map (is_among (measured acts)) (up_to (qubit_count acts)) → d.items ≡ item_count acts
+    → d ≡ draft_of acts
+draft_is d acts r q g m n =
+    ap (λ x. draft x d.qubits d.gates d.measured d.items) r ∙ ap (λ x. draft (registers acts) x d.gates d.measured d.items) q
+    ∙ ap (λ x. draft (registers acts) (qubit_count acts) x d.measured d.items) g ∙ ap (λ x. draft (registers acts) (qubit_count acts) (gates acts) x d.items) m
+    ∙ ap (λ x. draft (registers acts) (qubit_count acts) (gates acts) (map (is_among (measured acts)) (up_to (qubit_count acts))) x) n
 
 flags_are : (gone more : List ℕ) (n m : ℕ) → gone ≡ more → n ≡ m → map (is_among gone) (up_to n) ≡ map (is_among more) (up_to m)
 flags_are gone more n m e f = ap (λ g. map (is_among g) (up_to n)) e ∙ ap (λ k. map (is_among more) (up_to k)) f
@@ -178,6 +187,9 @@ module _ (limit : ℕ) (before : List Act) (d : Draft) (f : Follows limit before
   their_flags : d.measured ≡ map (is_among (measured before)) (up_to (qubit_count before))
   their_flags = ap (λ (d : Draft). d.measured) f.is
 
+  their_items : d.items ≡ item_count before
+  their_items = ap (λ (d : Draft). d.items) f.is
+
   -- what an act leaves as it is
   same_registers : (a : Act) → registers_in before a ≡ [] → d.registers ≡ registers (before ++ a ∷ [])
   same_registers a e = their_registers ∙ sym (registers_more before a ∙ ap (λ r. registers before ++ r) e ∙ append-nil (registers before))
@@ -187,6 +199,12 @@ module _ (limit : ℕ) (before : List Act) (d : Draft) (f : Follows limit before
 
   same_gates : (a : Act) → gates_in a ≡ [] → d.gates ≡ gates (before ++ a ∷ [])
   same_gates a e = their_gates ∙ sym (gates_more before a ∙ ap (λ r. gates before ++ r) e ∙ append-nil (gates before))
+
+  same_items : (a : Act) → items_in a ≡ 0 → d.items ≡ item_count (before ++ a ∷ [])
+  same_items a e = let i = their_items in let m = item_count_more before a in omega arith
+
+  same_sound : (a : Act) → defined_in a ≡ [] → AreSound (definitions (before ++ a ∷ []))
+  same_sound a e = subst AreSound (sym (definitions_more before a ∙ ap (λ r. definitions before ++ r) e ∙ append-nil (definitions before))) f.sound
 
   same_measured : (a : Act) → measured_in a ≡ [] → measured before ≡ measured (before ++ a ∷ [])
   same_measured a e = sym (measured_more before a ∙ ap (λ r. measured before ++ r) e ∙ append-nil (measured before))
@@ -199,14 +217,21 @@ module _ (limit : ℕ) (before : List Act) (d : Draft) (f : Follows limit before
 
   pub follows_nothing : Follows limit (before ++ nothing ∷ []) d
   follows_nothing = record {
-    is = draft_is d (before ++ nothing ∷ []) (same_registers nothing refl) (same_qubits nothing refl) (same_gates nothing refl) (same_flags nothing refl refl);
+    is = draft_is d (before ++ nothing ∷ []) (same_registers nothing refl) (same_qubits nothing refl) (same_gates nothing refl) (same_flags nothing refl refl) (same_items nothing refl);
     fits = f.fits;
     few = f.few;
     marked = same_marked nothing refl;
+    sound = same_sound nothing refl;
   }
 
-  pub follows_qubits : (name : List ℕ) (size : ℕ) → limit ≤ 64 → d.qubits + size ≤ limit → Follows limit (before ++ declares true name size ∷ []) (with_qubits d name size)
-  follows_qubits name size small fit = record { is = is; fits = fits; few = fit; marked = All-weaker (λ q. q < d.qubits) (λ q. q < d.qubits + size) (λ q l. omega arith) (measured (before ++ a ∷ [])) (same_marked a refl) }
+  pub follows_qubits : (name : List ℕ) (size : ℕ) → 0 < size → limit ≤ 64 → d.qubits + size ≤ limit → Follows limit (before ++ declares true name size ∷ []) (with_qubits d name size)
+  follows_qubits name size some small fit = record {
+    is = is;
+    fits = fits;
+    few = fit;
+    marked = All-weaker (λ q. q < d.qubits) (λ q. q < d.qubits + size) (λ q l. omega arith) (measured (before ++ a ∷ [])) (same_marked a refl);
+    sound = same_sound a refl;
+  }
     where
       a : Act
       a = declares true name size
@@ -228,38 +253,40 @@ module _ (limit : ℕ) (before : List Act) (d : Draft) (f : Follows limit before
           ∙ flags_are (measured before) (measured (before ++ a ∷ [])) (d.qubits + size) (qubit_count (before ++ a ∷ [])) (same_measured a refl) count
 
       is : with_qubits d name size ≡ draft_of (before ++ a ∷ [])
-      is = draft_is (with_qubits d name size) (before ++ a ∷ []) is_registers count (same_gates a refl) flags
+      is = draft_is (with_qubits d name size) (before ++ a ∷ []) is_registers count (same_gates a refl) flags (same_items a refl)
 
       fits : IsDraft (with_qubits d name size)
       fits = record {
         few_qubits = omega arith;
         few_gates = f.fits.few_gates;
+        few_items = f.fits.few_items;
         within = All-weaker (IsOn d.qubits) (IsOn (d.qubits + size)) (on_more d.qubits (d.qubits + size) (omega arith)) d.gates f.fits.within;
         flags = length-append d.measured (replicate size false) ∙ ap (λ n. n + length (replicate size false)) f.fits.flags ∙ ap (λ n. d.qubits + n) (length-replicate size false);
-        registers_end = ends_push (d.qubits + size) d.registers (name, record { quantum = true; first = d.qubits; size = size }) (ends_more d.qubits (d.qubits + size) (omega arith) d.registers f.fits.registers_end) (λ e. omega arith);
+        registers_end = ends_push (d.qubits + size) d.registers (name, record { quantum = true; first = d.qubits; size = size }) (ends_more d.qubits (d.qubits + size) (omega arith) d.registers f.fits.registers_end) (λ e. (some, omega arith));
       }
 
   pub follows_bits : (name : List ℕ) (size : ℕ) → Follows limit (before ++ declares false name size ∷ []) (with_bits d name size)
-  follows_bits name size = record { is = is; fits = fits; few = f.few; marked = same_marked a refl }
+  follows_bits name size = record { is = is; fits = fits; few = f.few; marked = same_marked a refl; sound = same_sound a refl }
     where
       a : Act
       a = declares false name size
 
       is : with_bits d name size ≡ draft_of (before ++ a ∷ [])
       is = draft_is (with_bits d name size) (before ++ a ∷ [])
-          (ap (λ r. r ++ (name, record { quantum = false; first = 0; size = size }) ∷ []) their_registers ∙ sym (registers_more before a)) (same_qubits a refl) (same_gates a refl) (same_flags a refl refl)
+          (ap (λ r. r ++ (name, record { quantum = false; first = 0; size = size }) ∷ []) their_registers ∙ sym (registers_more before a)) (same_qubits a refl) (same_gates a refl) (same_flags a refl refl) (same_items a refl)
 
       fits : IsDraft (with_bits d name size)
       fits = record {
         few_qubits = f.fits.few_qubits;
         few_gates = f.fits.few_gates;
+        few_items = f.fits.few_items;
         within = f.fits.within;
         flags = f.fits.flags;
         registers_end = ends_push d.qubits d.registers (name, record { quantum = false; first = 0; size = size }) f.fits.registers_end (λ e. absurd cc);
       }
 
   pub follows_measures : (t : Target) → ((place : ℕ) → place < place_count (t ∷ []) → qubit_at place t < d.qubits) → Follows limit (before ++ measures t ∷ []) (with_measured d (qubits_of t))
-  follows_measures t below = record { is = is; fits = fits; few = f.few; marked = marked }
+  follows_measures t below = record { is = is; fits = fits; few = f.few; marked = marked; sound = same_sound (measures t) refl }
     where
       more : measured before ++ qubits_of t ≡ measured (before ++ measures t ∷ [])
       more = sym (measured_more before (measures t))
@@ -270,12 +297,13 @@ module _ (limit : ℕ) (before : List Act) (d : Draft) (f : Follows limit before
           ∙ flags_are (measured before ++ qubits_of t) (measured (before ++ measures t ∷ [])) (qubit_count before) (qubit_count (before ++ measures t ∷ [])) more (sym their_qubits ∙ same_qubits (measures t) refl)
 
       is : with_measured d (qubits_of t) ≡ draft_of (before ++ measures t ∷ [])
-      is = draft_is (with_measured d (qubits_of t)) (before ++ measures t ∷ []) (same_registers (measures t) refl) (same_qubits (measures t) refl) (same_gates (measures t) refl) flags
+      is = draft_is (with_measured d (qubits_of t)) (before ++ measures t ∷ []) (same_registers (measures t) refl) (same_qubits (measures t) refl) (same_gates (measures t) refl) flags (same_items (measures t) refl)
 
       fits : IsDraft (with_measured d (qubits_of t))
       fits = record {
         few_qubits = f.fits.few_qubits;
         few_gates = f.fits.few_gates;
+        few_items = f.fits.few_items;
         within = f.fits.within;
         flags = length_raised d.measured (qubits_of t) ∙ f.fits.flags;
         registers_end = f.fits.registers_end;
@@ -285,23 +313,27 @@ module _ (limit : ℕ) (before : List Act) (d : Draft) (f : Follows limit before
       marked = subst (All (λ q. q < d.qubits)) more (All-append (λ q. q < d.qubits) (measured before) (qubits_of t) f.marked
           (All-map (λ q. q < d.qubits) (λ place. qubit_at place t) (up_to (place_count (t ∷ []))) (All-up_to (λ place. qubit_at place t < d.qubits) (place_count (t ∷ [])) below)))
 
-  pub follows_applies : (items : List Item) (ts : List Target)
+  pub follows_applies : (count : ℕ) (items : List Item) (ts : List Target)
       → ((place : ℕ) → place < place_count ts → All (IsOn d.qubits) (map (placed (qubits_at ts place)) items))
-      → length d.gates + length items * place_count ts ≤ 1000000
-      → Follows limit (before ++ applies items ts ∷ []) (with_gates d (product items ts))
-  follows_applies items ts on fit = record { is = is; fits = fits; few = f.few; marked = same_marked a refl }
+      → length d.gates + length items * place_count ts ≤ 1000000 → d.items + count * place_count ts ≤ 4000000
+      → Follows limit (before ++ applies count items ts ∷ []) (with_gates d (count * place_count ts) (product items ts))
+  follows_applies count items ts on fit few = record { is = is; fits = fits; few = f.few; marked = same_marked a refl; sound = same_sound a refl }
     where
       a : Act
-      a = applies items ts
+      a = applies count items ts
 
-      is : with_gates d (product items ts) ≡ draft_of (before ++ a ∷ [])
-      is = draft_is (with_gates d (product items ts)) (before ++ a ∷ []) (same_registers a refl) (same_qubits a refl)
-          (ap (λ g. g ++ product items ts) their_gates ∙ sym (gates_more before a)) (same_flags a refl refl)
+      more : d.items + count * place_count ts ≡ item_count (before ++ a ∷ [])
+      more = let i = their_items in let m = item_count_more before a in omega arith
 
-      fits : IsDraft (with_gates d (product items ts))
+      is : with_gates d (count * place_count ts) (product items ts) ≡ draft_of (before ++ a ∷ [])
+      is = draft_is (with_gates d (count * place_count ts) (product items ts)) (before ++ a ∷ []) (same_registers a refl) (same_qubits a refl)
+          (ap (λ g. g ++ product items ts) their_gates ∙ sym (gates_more before a)) (same_flags a refl refl) more
+
+      fits : IsDraft (with_gates d (count * place_count ts) (product items ts))
       fits = record {
         few_qubits = f.fits.few_qubits;
         few_gates = (let n = length_product items ts in let m = length-append d.gates (product items ts) in omega arith);
+        few_items = few;
         within = All-append (IsOn d.qubits) d.gates (product items ts) f.fits.within (all_product (IsOn d.qubits) items ts on);
         flags = f.fits.flags;
         registers_end = f.fits.registers_end;
@@ -311,7 +343,8 @@ module _ (limit : ℕ) (before : List Act) (d : Draft) (f : Follows limit before
 pub follows_none : (limit : ℕ) → Follows limit [] (draft_of [])
 follows_none limit = record {
   is = refl;
-  fits = record { few_qubits = omega arith; few_gates = omega arith; within = All-nil _; flags = refl; registers_end = tt };
+  fits = record { few_qubits = omega arith; few_gates = omega arith; few_items = omega arith; within = All-nil _; flags = refl; registers_end = tt };
   few = omega arith;
   marked = All-nil _;
+  sound = tt;
 }

@@ -1,24 +1,52 @@
 -- What arguments mean, looked up one after the other.
-use Rattle.std.proofs.Common.{◌≡◌, ◌∙◌, sym, ap, refl, ◌≤◌, ℕ, suc, ◌+◌, Bool, true, false, ◌||◌, not, cond, min, List, [], ◌∷◌, ◌++◌, length, append_assoc, append-nil, length-append, Option, Some, None, is_some, option_map, option_and_then, Result, Ok, Err, arith}
-use Rattle.std.specs.List.{list_any}
+use Rattle.std.proofs.Common.{◌≡◌, ◌∙◌, sym, ap, refl, ◌≤◌, ℕ, suc, ◌+◌, Bool, true, false, ◌||◌, not, cond, min, nat_lt, take, List, [], ◌∷◌, ◌++◌, length, append_assoc, append-nil, length-append, Option, Some, None, is_some, option_map, option_and_then, Result, Ok, Err, arith}
+use Rattle.std.specs.List.{list_any, cons_option}
+use Rattle.std.specs.Option.{option_or}
 use Rattle.std.proofs.Math.Bool.{or-false, or_assoc}
-use Rattle.std.proofs.lemmas.Bool.{or_parts, or_right, lt-ltb}
+use Rattle.std.proofs.lemmas.Bool.{or_parts, or_right, ltb-false}
+use Rattle.std.proofs.lemmas.List.{take_all}
+use Rattle.std.proofs.Math.Seq.{take-append_seam}
 use Rattle.std.proofs.lemmas.Option.{same_Some}
-use Rattle.std.proofs.lemmas.Bool.Decides.{nat_tests}
+use Rattle.std.proofs.lemmas.Bool.Decides.{nat_tests, Decides-ltb}
+use Rattle.qasm_lex.specs.Lexemes.{Lexeme}
 use Rattle.qasm_forms.specs.Statements.{Argument}
 use Rattle.qasm_reader.specs.declared.registers.Miss.{Miss}
 use Rattle.qasm_reader.specs.declared.registers.Miss.TheVariants.{Unknown, Beyond}
-use Rattle.qasm_reader.specs.Acts.{Register, Target, register, index_of, place_in, target, targets}
+use Rattle.qasm_reader.specs.Acts.{Register, Target, register, index_of, place_in, target, targets, wholes}
 use Rattle.qasm_reader.specs.Reasons.{same_sort, is_unknown, is_beyond}
-use Rattle.qasm_reader.specs.Private.Scope.{found_as, find, Found, next_count, noted}
+use Rattle.qasm_reader.specs.Private.Scope.{found_as, find, Found, many, next_count, other_size, noted, other_than, differ}
 
 -- what is known of arguments, noted one after the other
 abbrev pub nothing_found : Found
-nothing_found = record { targets = []; count = 0; unknown = false; beyond = false }
+nothing_found = record { targets = []; count = 0; unknown = false; beyond = false; size = None; differ = false }
 
 abbrev pub look : List (List ℕ × Register) → Found → List Argument → Found
 look all f [] = f
 look all f (a ∷ more) = look all (noted f (find all true a)) more
+
+-- whether one of the sizes differs from the first of all
+abbrev pub differs_from : Option ℕ → List ℕ → Bool
+differs_from None sizes = differ sizes
+differs_from (Some n) sizes = list_any (other_than n) sizes
+
+none_differs : (size : Option ℕ) → differs_from size [] ≡ false
+none_differs None = refl
+none_differs (Some n) = refl
+
+sized : (s t : Option ℕ) (sizes : List ℕ) → other_size s t || differs_from (option_or s t) sizes ≡ differs_from s (cons_option t sizes)
+sized None None sizes = refl
+sized None (Some m) sizes = refl
+sized (Some n) None sizes = refl
+sized (Some n) (Some m) sizes = refl
+
+full : (xs ys : List Target) → length xs ≡ 64 → take 64 (xs ++ ys) ≡ xs
+full xs ys n = ap (λ k. take k (xs ++ ys)) (sym n) ∙ take-append_seam xs ys
+
+-- the first 64 of targets, one after the other
+kept : (xs : List Target) (t : Target) (ts : List Target) → length xs ≤ 64 → (b : Bool) → nat_lt (length xs) 64 ≡ b
+    → (take 64 (cond b (xs ++ t ∷ []) xs ++ ts) ≡ take 64 (xs ++ (t ∷ ts))) × (length (cond b (xs ++ t ∷ []) xs) ≤ 64)
+kept xs t ts h true e = let l = (Decides-ltb (length xs) 64).0 e in (ap (take 64) (append_assoc xs (t ∷ []) ts), omega (arith, length-append xs (t ∷ [])))
+kept xs t ts h false e = let l = ltb-false (length xs) 64 e in let n : length xs ≡ 64 = omega arith in (full xs ts n ∙ sym (full xs (t ∷ ts) n), h)
 
 -- a target before others
 abbrev pub and_first : Option Target → Option (List Target) → Option (List Target)
@@ -32,9 +60,16 @@ with_first (Some t) (Some us) ts e = (t, us, refl, refl, same_Some (t ∷ us) ts
 with_first (Some t) None ts e = absurd cc
 with_first None xs ts e = absurd cc
 
--- one more of a count up to 12
-next_is : (n : ℕ) → n ≤ 12 → next_count n ≡ min (n + 1) 12
+-- one more of a count up to the most
+next_is : (n : ℕ) → n ≤ many → next_count n ≡ min (n + 1) many
 next_is n h = grind (arith, nat_tests)
+
+-- one angle more
+pub counted_more : (count : ℕ) (xs : List (List Lexeme)) (rest : List (List Lexeme)) (a : List Lexeme) → count ≤ many → xs ≡ a ∷ rest → (min (next_count count + length rest) many ≡ min (count + length xs) many) × (next_count count ≤ many)
+counted_more count xs rest a h e =
+    let n = next_is count h in
+    let l : length xs ≡ suc (length rest) = ap length e in
+    (omega (arith, min), omega (arith, min))
 
 noted_unknown : (f : Found) (u b : Bool) (x : Option Target) → (u ≡ false → is_some x ≡ true) → (noted f (found_as u b x)).unknown ≡ f.unknown || u
 noted_unknown f true b x k = sym (or_right f.unknown true refl)
@@ -80,7 +115,7 @@ module _ (all : List (List ℕ × Register)) where
       ∙ ap (λ b. b || list_any (is_beyond all) more) (ap (λ u. (noted f (found_as u (is_beyond all a) (target all a))).beyond) p.0 ∙ noted_beyond f (is_beyond all a) (target all a) (has_target true a p.0))
       ∙ or_assoc f.beyond (is_beyond all a) (list_any (is_beyond all) more)
 
-  pub look_count : (f : Found) (arguments : List Argument) → f.count ≤ 12 → (look all f arguments).count ≡ min (f.count + length arguments) 12
+  pub look_count : (f : Found) (arguments : List Argument) → f.count ≤ many → (look all f arguments).count ≡ min (f.count + length arguments) many
   look_count f [] h = omega arith
   look_count f (a ∷ more) h =
       let e = noted_count f (find all true a) in
@@ -96,26 +131,26 @@ module _ (all : List (List ℕ × Register)) where
       let ts = targets_known more p.1 in
       (t.0 ∷ ts.0, both_some (target all a) (targets all more) t.0 ts.0 t.1 ts.1)
 
-  pub look_targets : (f : Found) (arguments : List Argument) → list_any (is_unknown all true) arguments ≡ false → list_any (is_beyond all) arguments ≡ false
-      → length f.targets + length arguments ≤ 11 → (ts : List Target) × (targets all arguments ≡ Some ts) × ((look all f arguments).targets ≡ f.targets ++ ts)
-  look_targets f [] u b h = ([], refl, sym (append-nil f.targets))
+  pub look_targets : (f : Found) (arguments : List Argument) → list_any (is_unknown all true) arguments ≡ false → list_any (is_beyond all) arguments ≡ false → length f.targets ≤ 64
+      → (ts : List Target) × (targets all arguments ≡ Some ts) × ((look all f arguments).targets ≡ take 64 (f.targets ++ ts)) × ((look all f arguments).differ ≡ f.differ || differs_from f.size (wholes ts))
+  look_targets f [] u b h = ([], refl, sym (take_all 64 (f.targets ++ []) (let e = ap length (append-nil f.targets) in omega arith) ∙ append-nil f.targets), sym (ap (λ x. f.differ || x) (none_differs f.size) ∙ or-false f.differ))
   look_targets f (a ∷ more) u b h =
       let p = or_parts (is_unknown all true a) (list_any (is_unknown all true) more) u in
       let q = or_parts (is_beyond all a) (list_any (is_beyond all) more) b in
       let t = target_known true a p.0 in
       let e : find all true a ≡ Ok t.0 = ap (λ x. found_as x (is_beyond all a) (target all a)) p.0 ∙ ap (λ x. found_as false x (target all a)) q.0 ∙ ap (found_as false false) t.1 in
-      let new : (noted f (Ok t.0)).targets ≡ f.targets ++ t.0 ∷ [] = ap (λ b. cond b (f.targets ++ t.0 ∷ []) f.targets) (lt-ltb (length f.targets) 11 (omega arith)) in
-      let long : length (noted f (Ok t.0)).targets ≡ length f.targets + 1 = ap length new ∙ length-append f.targets (t.0 ∷ []) in
-      let r = look_targets (noted f (Ok t.0)) more p.1 q.1 (omega arith) in (
+      let r = look_targets (noted f (Ok t.0)) more p.1 q.1 (kept f.targets t.0 [] h (nat_lt (length f.targets) 64) refl).1 in (
         t.0 ∷ r.0,
         both_some (target all a) (targets all more) t.0 r.0 t.1 r.1,
-        ap (λ x. (look all (noted f x) more).targets) e ∙ r.2 ∙ ap (λ l. l ++ r.0) new ∙ append_assoc f.targets (t.0 ∷ []) r.0,
+        ap (λ x. (look all (noted f x) more).targets) e ∙ r.2 ∙ (kept f.targets t.0 r.0 h (nat_lt (length f.targets) 64) refl).0,
+        ap (λ x. (look all (noted f x) more).differ) e ∙ r.3 ∙ or_assoc f.differ (other_size f.size t.0.size) (differs_from (option_or f.size t.0.size) (wholes r.0))
+            ∙ ap (λ x. f.differ || x) (sized f.size t.0.size (wholes r.0)),
       )
 
   -- the arguments of a statement
-  pub all_targets : (arguments : List Argument) → list_any (is_unknown all true) arguments ≡ false → list_any (is_beyond all) arguments ≡ false → length arguments ≤ 11
-      → targets all arguments ≡ Some (look all nothing_found arguments).targets
-  all_targets arguments u b h = let l : 0 + length arguments ≤ 11 = omega arith in let r = look_targets nothing_found arguments u b l in r.1 ∙ ap Some (sym r.2)
+  pub all_targets : (arguments : List Argument) → list_any (is_unknown all true) arguments ≡ false → list_any (is_beyond all) arguments ≡ false
+      → (ts : List Target) × (targets all arguments ≡ Some ts) × ((look all nothing_found arguments).targets ≡ take 64 ts) × ((look all nothing_found arguments).differ ≡ differ (wholes ts))
+  all_targets arguments u b = look_targets nothing_found arguments u b (omega arith)
 
 -- as many targets as arguments
 pub length_targets : (all : List (List ℕ × Register)) (arguments : List Argument) (ts : List Target) → targets all arguments ≡ Some ts → length ts ≡ length arguments

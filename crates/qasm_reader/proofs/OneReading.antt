@@ -7,52 +7,65 @@ use Rattle.qasm_reader.specs.declared.reason.Why.{Why}
 use Rattle.qasm_reader.specs.declared.reason.ReadStop.{ReadStop}
 use Rattle.qasm_reader.specs.declared.reason.ReadStop.TheVariants.{Refused as Stopped, OutOfMemory}
 use Rattle.gate_set.specs.Circuits.{Circuit}
-use Rattle.qasm_forms.specs.Statements.{Statement, measure, call, Argument}
-use Rattle.qasm_gates.specs.Gates.{Item}
-use Rattle.qasm_reader.specs.Acts.{Act, Target, measures, applies, circuit_of}
-use Rattle.qasm_reader.specs.Calls.{gate_named, Calls, Does}
+use Rattle.qasm_forms.specs.Statements.{Statement, measure, call, definition, Argument}
+use Rattle.qasm_gates.specs.Gates.{Basic, Meaning}
+use Rattle.qasm_gates.specs.Bodies.{defined}
+use Rattle.qasm_gates.specs.Private.Counts.{items_done}
+use Rattle.qasm_reader.specs.Acts.{Act, Target, defines, measures, applies, definitions, circuit_of}
+use Rattle.qasm_reader.specs.Calls.{listed, Calls, Does}
 use Rattle.qasm_reader.specs.Parts.{Part, parts_of}
 use Rattle.qasm_reader.specs.Reasons.{Holds, Refuses, IsFree}
 use Rattle.qasm_reader.specs.Reading.{Accepts, AllAccepted, Reading, circuit, refusal, IsRefused, Reads, ReadsAs, IfRefused, Says}
-use Rattle.qasm_reader.specs.Private.Scope.{Taken}
+use Rattle.qasm_reader.specs.Private.Meanings.{meaning_of}
+use Rattle.qasm_reader.specs.Private.Drafts.{AreSound}
 use Rattle.qasm_reader.proofs.Facts.{same_first, same_rest}
 use Rattle.qasm_reader.proofs.Good.{has_one, one_refusal}
-use Rattle.qasm_reader.proofs.Yielding.{yields_one}
+use Rattle.qasm_reader.proofs.Meanings.{means_one, calls_one}
+use Rattle.qasm_reader.proofs.Deciding.{meant_counts}
+use Rattle.qasm_reader.proofs.Sounding.{accepted_sound}
 
-items_same : (x y : List Item) → ◌≡◌ {A = Taken} (Ok (Some x)) (Ok (Some y)) → x ≡ y
-items_same x y e = cc
+same_basics : (x y : List Basic) → ◌≡◌ {A = Meaning} (Ok x) (Ok y) → x ≡ y
+same_basics x y e = cc
 
 -- a call does one thing
-calls_one : (before : List Act) (name : List ℕ) (angles : List (List Lexeme)) (all : List Argument) (a b : Act) → Calls before name angles all a → Calls before name angles all b → a ≡ b
-calls_one before name angles all a b p q =
-    let items = items_same p.items q.items (yields_one (gate_named before name) angles (Ok (Some p.items)) (Ok (Some q.items)) (p.called, p.values, p.named, p.valued, p.gives) (q.called, q.values, q.named, q.valued, q.gives)) in
+call_one : (before : List Act) → AreSound (definitions before) → (name : List ℕ) (angles : List (List Lexeme)) (all : List Argument) (a b : Act) → Calls before name angles all a → Calls before name angles all b → a ≡ b
+call_one before sound name angles all a b p q =
+    let called : p.called ≡ q.called = same_Some p.called q.called (sym p.named ∙ q.named) in
+    let m = means_one p.called angles (Ok p.basics) p.meant in
+    let n = means_one q.called angles (Ok q.basics) q.meant in
+    let basics : p.basics ≡ q.basics = same_basics p.basics q.basics (sym m ∙ ap (λ c. meaning_of c angles) called ∙ n) in
+    let items : p.items ≡ q.items =
+    (meant_counts before sound name p.called angles p.basics p.items p.named m p.done).1 ∙ ap items_done basics ∙ sym (meant_counts before sound name q.called angles q.basics q.items q.named n q.done).1 in
     let on : p.on ≡ q.on = same_Some p.on q.on (sym p.means ∙ q.means) in
-    p.does ∙ ap (λ x. applies x p.on) items ∙ ap (applies q.items) on ∙ sym q.does
+    p.does ∙ ap (λ x. applies x.items p.items p.on) called ∙ ap (λ x. applies q.called.items x p.on) items ∙ ap (applies q.called.items q.items) on ∙ sym q.does
 
 measures_one : (x : Option Target) (a b : Act) → (t : Target) × (x ≡ Some t) × (a ≡ measures t) → (t : Target) × (x ≡ Some t) × (b ≡ measures t) → a ≡ b
 measures_one x a b p q = p.2 ∙ ap measures (same_Some p.0 q.0 (sym p.1 ∙ q.1)) ∙ sym q.2
 
 -- a statement does one thing
-pub does_one : (before : List Act) (s : Statement) (a b : Act) → Does before s a → Does before s b → a ≡ b
-does_one before (measure from to) a b p q = measures_one _ a b p q
-does_one before (call name angles all) a b p q = calls_one before name _ all a b p q
-does_one before _ a b p q = p ∙ sym q
+pub does_one : (before : List Act) → AreSound (definitions before) → (s : Statement) (a b : Act) → Does before s a → Does before s b → a ≡ b
+does_one before sound (measure from to) a b p q = measures_one _ a b p q
+does_one before sound (call name angles all) a b p q = call_one before sound name _ all a b p q
+does_one before sound (definition name params formals lines) a b p q =
+    let cs : p.0 ≡ q.0 = same_Some p.0 q.0 (sym (calls_one before (listed params) formals lines p.0 p.1) ∙ calls_one before (listed params) formals lines q.0 q.1) in
+    p.2 ∙ ap (λ cs. defines name (defined (length (listed params)) (length formals) cs)) cs ∙ sym q.2
+does_one before sound _ a b p q = p ∙ sym q
 
 -- an accepted part does one thing
-pub accepts_one : (limit : ℕ) (before : List Act) (part : Part) (a b : Act) → Accepts limit before part a → Accepts limit before part b → a ≡ b
-accepts_one limit before part a b p q =
-    does_one before p.statement a b p.does (subst (λ s. Does before s b) (has_one before part q.statement p.statement q.has p.has) q.does)
+pub accepts_one : (limit : ℕ) (before : List Act) → AreSound (definitions before) → (part : Part) (a b : Act) → Accepts limit before part a → Accepts limit before part b → a ≡ b
+accepts_one limit before sound part a b p q =
+    does_one before sound p.statement a b p.does (subst (λ s. Does before s b) (has_one before part q.statement p.statement q.has p.has) q.does)
 
 -- parts that are all accepted do the same
-pub all_accepted_one : (limit : ℕ) (before : List Act) (parts : List Part) (xs ys : List Act) → AllAccepted limit before parts xs → AllAccepted limit before parts ys → xs ≡ ys
-all_accepted_one limit before [] [] [] p q = refl
-all_accepted_one limit before (part ∷ parts) (x ∷ xs) (y ∷ ys) p q =
-    let e : x ≡ y = accepts_one limit before part x y p.0 q.0 in
-    let rest = all_accepted_one limit (before ++ x ∷ []) parts xs ys p.1 (subst (λ a. AllAccepted limit (before ++ a ∷ []) parts ys) (sym e) q.1) in
+pub all_accepted_one : (limit : ℕ) (before : List Act) → AreSound (definitions before) → (parts : List Part) (xs ys : List Act) → AllAccepted limit before parts xs → AllAccepted limit before parts ys → xs ≡ ys
+all_accepted_one limit before sound [] [] [] p q = refl
+all_accepted_one limit before sound (part ∷ parts) (x ∷ xs) (y ∷ ys) p q =
+    let e : x ≡ y = accepts_one limit before sound part x y p.0 q.0 in
+    let rest = all_accepted_one limit (before ++ x ∷ []) (accepted_sound limit before part x sound p.0) parts xs ys p.1 (subst (λ a. AllAccepted limit (before ++ a ∷ []) parts ys) (sym e) q.1) in
     ap (λ a. a ∷ xs) e ∙ ap (λ r. y ∷ r) rest
-all_accepted_one limit before [] [] _ p q = absurd q
-all_accepted_one limit before (part ∷ parts) (x ∷ xs) _ p q = absurd q
-all_accepted_one limit before _ _ _ p q = absurd p
+all_accepted_one limit before sound [] [] _ p q = absurd q
+all_accepted_one limit before sound (part ∷ parts) (x ∷ xs) _ p q = absurd q
+all_accepted_one limit before sound _ _ _ p q = absurd p
 
 -- no part is both accepted and refused
 free_not_refused : (limit : ℕ) (before : List Act) (part : Part) (why : Why) → IsFree limit before part → Refuses limit (before ++ []) part why → ⊥
@@ -63,52 +76,52 @@ further : (limit : ℕ) (before : List Act) (x : Act) (xs : List Act) (part : Pa
 further limit before x xs part why r = subst (λ b. Refuses limit b part why) (sym (append_assoc before (x ∷ []) xs)) r
 
 -- parts that are all accepted have none that is refused
-accepted_not_refused : (limit : ℕ) (before : List Act) (good more : List Part) (bad : Part) (acts xs : List Act) (why : Why) → AllAccepted limit before (good ++ (bad ∷ more)) acts
+accepted_not_refused : (limit : ℕ) (before : List Act) → AreSound (definitions before) → (good more : List Part) (bad : Part) (acts xs : List Act) (why : Why) → AllAccepted limit before (good ++ (bad ∷ more)) acts
     → AllAccepted limit before good xs → Refuses limit (before ++ xs) bad why → ⊥
-accepted_not_refused limit before [] more bad (a ∷ acts) [] why p q r = free_not_refused limit before bad why ((p.0).free) r
-accepted_not_refused limit before (part ∷ good) more bad (a ∷ acts) (x ∷ xs) why p q r =
-    let e : a ≡ x = accepts_one limit before part a x p.0 q.0 in
-    accepted_not_refused limit (before ++ x ∷ []) good more bad acts xs why (subst (λ y. AllAccepted limit (before ++ y ∷ []) (good ++ (bad ∷ more)) acts) e p.1) q.1
+accepted_not_refused limit before sound [] more bad (a ∷ acts) [] why p q r = free_not_refused limit before bad why ((p.0).free) r
+accepted_not_refused limit before sound (part ∷ good) more bad (a ∷ acts) (x ∷ xs) why p q r =
+    let e : a ≡ x = accepts_one limit before sound part a x p.0 q.0 in
+    accepted_not_refused limit (before ++ x ∷ []) (accepted_sound limit before part x sound q.0) good more bad acts xs why (subst (λ y. AllAccepted limit (before ++ y ∷ []) (good ++ (bad ∷ more)) acts) e p.1) q.1
     (further limit before x xs bad why r)
-accepted_not_refused limit before [] more bad [] xs why p q r = p
-accepted_not_refused limit before [] more bad (a ∷ acts) (x ∷ xs) why p q r = q
-accepted_not_refused limit before (part ∷ good) more bad [] xs why p q r = p
-accepted_not_refused limit before (part ∷ good) more bad (a ∷ acts) [] why p q r = q
+accepted_not_refused limit before sound [] more bad [] xs why p q r = p
+accepted_not_refused limit before sound [] more bad (a ∷ acts) (x ∷ xs) why p q r = q
+accepted_not_refused limit before sound (part ∷ good) more bad [] xs why p q r = p
+accepted_not_refused limit before sound (part ∷ good) more bad (a ∷ acts) [] why p q r = q
 
 -- the first part that is refused is one, and so is its reason
-refused_one : (limit : ℕ) (before : List Act) (good other : List Part) (bad worse : Part) (more rest : List Part) (xs ys : List Act) (v w : Why) → good ++ (bad ∷ more) ≡ other ++ (worse ∷ rest)
+refused_one : (limit : ℕ) (before : List Act) → AreSound (definitions before) → (good other : List Part) (bad worse : Part) (more rest : List Part) (xs ys : List Act) (v w : Why) → good ++ (bad ∷ more) ≡ other ++ (worse ∷ rest)
     → AllAccepted limit before good xs → AllAccepted limit before other ys → Refuses limit (before ++ xs) bad v → Refuses limit (before ++ ys) worse w → (length good ≡ length other) × (v ≡ w)
-refused_one limit before [] [] bad worse more rest [] [] v w e p q r s =
+refused_one limit before sound [] [] bad worse more rest [] [] v w e p q r s =
     (refl, one_refusal limit (before ++ []) bad v w r (subst (λ part. Refuses limit (before ++ []) part w) (sym (same_first e)) s))
-refused_one limit before [] (o ∷ other) bad worse more rest [] (y ∷ ys) v w e p q r s =
+refused_one limit before sound [] (o ∷ other) bad worse more rest [] (y ∷ ys) v w e p q r s =
     absurd (free_not_refused limit before o v ((q.0).free) (subst (λ part. Refuses limit (before ++ []) part v) (same_first e) r))
-refused_one limit before (g ∷ good) [] bad worse more rest (x ∷ xs) [] v w e p q r s =
+refused_one limit before sound (g ∷ good) [] bad worse more rest (x ∷ xs) [] v w e p q r s =
     absurd (free_not_refused limit before g w ((p.0).free) (subst (λ part. Refuses limit (before ++ []) part w) (sym (same_first e)) s))
-refused_one limit before (g ∷ good) (o ∷ other) bad worse more rest (x ∷ xs) (y ∷ ys) v w e p q r s =
+refused_one limit before sound (g ∷ good) (o ∷ other) bad worse more rest (x ∷ xs) (y ∷ ys) v w e p q r s =
     let part : g ≡ o = same_first e in
-    let act : y ≡ x = accepts_one limit before g y x (subst (λ k. Accepts limit before k y) (sym part) q.0) p.0 in
-    let one = refused_one limit (before ++ x ∷ []) good other bad worse more rest xs ys v w (same_rest e) p.1
+    let act : y ≡ x = accepts_one limit before sound g y x (subst (λ k. Accepts limit before k y) (sym part) q.0) p.0 in
+    let one = refused_one limit (before ++ x ∷ []) (accepted_sound limit before g x sound p.0) good other bad worse more rest xs ys v w (same_rest e) p.1
     (subst (λ a. AllAccepted limit (before ++ a ∷ []) other ys) act q.1) (further limit before x xs bad v r)
     (subst (λ a. Refuses limit ((before ++ a ∷ []) ++ ys) worse w) act (further limit before y ys worse w s)) in
     (let l = one.0 in omega arith, one.1)
-refused_one limit before [] other bad worse more rest (x ∷ xs) ys v w e p q r s = absurd p
-refused_one limit before (g ∷ good) other bad worse more rest [] ys v w e p q r s = absurd p
-refused_one limit before _ _ bad worse more rest _ _ v w e p q r s = absurd q
+refused_one limit before sound [] other bad worse more rest (x ∷ xs) ys v w e p q r s = absurd p
+refused_one limit before sound (g ∷ good) other bad worse more rest [] ys v w e p q r s = absurd p
+refused_one limit before sound _ _ bad worse more rest _ _ v w e p q r s = absurd q
 
 -- statements read in one way
 reading_refused : (limit : ℕ) (parts : List Part) (n m : ℕ) (v w : Why) → IsRefused limit parts n v → IsRefused limit parts m w → refusal n v ≡ refusal m w
 reading_refused limit parts n m v w p q =
-    let one = refused_one limit [] p.good q.good p.bad q.bad p.more q.more p.acts q.acts v w (sym p.split ∙ q.split) p.accepted q.accepted p.refuses q.refuses in
+    let one = refused_one limit [] tt p.good q.good p.bad q.bad p.more q.more p.acts q.acts v w (sym p.split ∙ q.split) p.accepted q.accepted p.refuses q.refuses in
     ap (λ k. refusal k v) (p.count ∙ ap (λ k. k + 1) one.0 ∙ sym q.count) ∙ ap (λ y. refusal m y) one.1
 
 reading_not_both : (limit : ℕ) (parts : List Part) (acts : List Act) (n : ℕ) (why : Why) → AllAccepted limit [] parts acts → IsRefused limit parts n why → ⊥
 reading_not_both limit parts acts n why p q =
-    accepted_not_refused limit [] q.good q.more q.bad acts q.acts why (subst (λ x. AllAccepted limit [] x acts) q.split p) q.accepted q.refuses
+    accepted_not_refused limit [] tt q.good q.more q.bad acts q.acts why (subst (λ x. AllAccepted limit [] x acts) q.split p) q.accepted q.refuses
 
 pub reads_one : (limit : ℕ) (parts : List Part) (a b : Reading) → Reads limit parts a → Reads limit parts b → a ≡ b
 reads_one limit [] a b p q = p ∙ sym q
 reads_one limit (part ∷ parts) (circuit c) (circuit d) p q =
-    ap circuit (p.2 ∙ ap circuit_of (all_accepted_one limit [] (part ∷ parts) p.0 q.0 p.1 q.1) ∙ sym q.2)
+    ap circuit (p.2 ∙ ap circuit_of (all_accepted_one limit [] tt (part ∷ parts) p.0 q.0 p.1 q.1) ∙ sym q.2)
 reads_one limit (part ∷ parts) (circuit c) (refusal n why) p q = absurd (reading_not_both limit (part ∷ parts) p.0 n why p.1 q)
 reads_one limit (part ∷ parts) (refusal n why) (circuit c) p q = absurd (reading_not_both limit (part ∷ parts) q.0 n why q.1 p)
 reads_one limit (part ∷ parts) (refusal n v) (refusal m w) p q = reading_refused limit (part ∷ parts) n m v w p q

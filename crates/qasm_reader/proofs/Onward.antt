@@ -9,11 +9,12 @@ use Rattle.qasm_reader.specs.declared.reason.ReadStop.{ReadStop}
 use Rattle.qasm_reader.specs.declared.reason.ReadStop.TheVariants.{Refused as Stopped, OutOfMemory}
 use Rattle.qasm_lex.specs.Lexemes.{Lexeme}
 use Rattle.qasm_forms.specs.Cutting.{is_nothing}
+use Rattle.qasm_gates.specs.declared.gates.Gates.{Gates}
 use Rattle.qasm_reader.specs.Acts.{Act}
 use Rattle.qasm_reader.specs.Parts.{Part, last_part, is_end, cut, parts_of}
 use Rattle.qasm_reader.specs.Reasons.{Refuses}
 use Rattle.qasm_reader.specs.Reading.{Accepts, AllAccepted, circuit, refusal, IsRefused, Reads, IfRefused}
-use Rattle.qasm_reader.specs.Private.Drafts.{Draft, Follows, Concludes, Reached, draft_of, no_form}
+use Rattle.qasm_reader.specs.Private.Drafts.{Draft, Follows, Knows, Concludes, Reached, draft_of, no_form}
 use Rattle.qasm_reader.proofs.Good.{is_first, no_acts, some_acts, bad_refuses, version_refuses, form_refuses}
 use Rattle.qasm_reader.proofs.Growing.{follows_none}
 use Rattle.std.proofs.lemmas.List.{append-nil}
@@ -39,40 +40,41 @@ first_is : (number : ℕ) (acts : List Act) → number ≡ length acts + 1 → n
 first_is number [] e = ap (λ n. nat_eq n 1) e
 first_is number (a ∷ acts) e = let q : number ≡ suc (length acts) + 1 = e in grind (arith, nat_tests)
 
-module _ (limit : ℕ) (all : List Part) (d : Draft) (number : ℕ) where
-  pub number_first : (rest : List Part) (r : Reached limit all rest d number) → nat_eq number 1 ≡ is_first r.acts
+module _ (limit : ℕ) (all : List Part) (d : Draft) (g : Gates) (number : ℕ) where
+  pub number_first : (rest : List Part) (r : Reached limit all rest d g number) → nat_eq number 1 ≡ is_first r.acts
   number_first rest r = first_is number r.acts (let e = same_length limit [] r.good r.acts r.accepted in let c = r.count in omega arith)
 
   -- what comes of the next statement
-  abbrev pub Next : Part → Option Why → Draft → Type 0
-  Next p why e = (before : List Act) → Follows limit before d → nat_eq number 1 ≡ is_first before → Concludes limit before p why e
+  abbrev pub Next : Part → Option Why → Draft → Gates → Type 0
+  Next p why e k = (before : List Act) → Follows limit before d → Knows before g → nat_eq number 1 ≡ is_first before → Concludes limit before p why e k
 
-  pub reached_next : (p : Part) (rest : List Part) (e : Draft) (next : ℕ) → next ≡ number + 1 → Reached limit all (p ∷ rest) d number → Next p None e → Reached limit all rest e next
-  reached_next p rest e next n r c =
-      let x = c r.acts r.follows (number_first (p ∷ rest) r) in
+  pub reached_next : (p : Part) (rest : List Part) (e : Draft) (k : Gates) (next : ℕ) → next ≡ number + 1 → Reached limit all (p ∷ rest) d g number → Next p None e k → Reached limit all rest e k next
+  reached_next p rest e k next n r c =
+      let x = c r.acts r.follows r.knows (number_first (p ∷ rest) r) in
       record {
         good = r.good ++ p ∷ [];
         acts = r.acts ++ x.0 ∷ [];
         split = r.split ∙ sym (append_assoc r.good (p ∷ []) rest);
         accepted = accepted_more limit [] r.good r.acts p x.0 r.accepted x.1;
         follows = x.2;
-        count = let l = length-append r.good (p ∷ []) in let k = r.count in omega arith;
+        knows = x.3;
+        count = let l = length-append r.good (p ∷ []) in let m = r.count in omega arith;
       }
 
-  pub reached_refused : (p : Part) (rest : List Part) (e : Draft) (why : Why) → Reached limit all (p ∷ rest) d number → Next p (Some why) e → IsRefused limit all number why
-  reached_refused p rest e why r c = record {
+  pub reached_refused : (p : Part) (rest : List Part) (e : Draft) (k : Gates) (why : Why) → Reached limit all (p ∷ rest) d g number → Next p (Some why) e k → IsRefused limit all number why
+  reached_refused p rest e k why r c = record {
     good = r.good;
     bad = p;
     more = rest;
     acts = r.acts;
     split = r.split;
     accepted = r.accepted;
-    refuses = c r.acts r.follows (number_first (p ∷ rest) r);
+    refuses = c r.acts r.follows r.knows (number_first (p ∷ rest) r);
     count = r.count;
   }
 
   -- nothing is left
-  pub reached_end : all ≢ [] → Reached limit all [] d number → Reads limit all (circuit (circuit_in d))
+  pub reached_end : all ≢ [] → Reached limit all [] d g number → Reads limit all (circuit (circuit_in d))
   reached_end some r = by all some (r.split ∙ append-nil r.good)
     where
       by : (ps : List Part) → ps ≢ [] → ps ≡ r.good → Reads limit ps (circuit (circuit_in d))
@@ -113,8 +115,8 @@ last_bad : (ls : List Lexeme) (place : ℕ) → last_part ls (Some place) ≡ re
 last_bad [] place = refl
 last_bad (l ∷ ls) place = refl
 
-pub end_bad : (limit : ℕ) (all : List Part) (d : Draft) (number : ℕ) (ls : List Lexeme) (place : ℕ) → Reached limit all (last_part ls (Some place)) d number → Reads limit all (refusal number (BadByte place))
-end_bad limit all d number ls place r =
+pub end_bad : (limit : ℕ) (all : List Part) (d : Draft) (g : Gates) (number : ℕ) (ls : List Lexeme) (place : ℕ) → Reached limit all (last_part ls (Some place)) d g number → Reads limit all (refusal number (BadByte place))
+end_bad limit all d g number ls place r =
     let p : Part = record { lexemes = ls; closed = false; bad = Some place } in
     refused_reads limit all number (BadByte place) (record {
       good = r.good;
@@ -136,9 +138,9 @@ open_refuses : (limit : ℕ) (acts : List Act) (ls : List Lexeme) (first : Bool)
 open_refuses limit acts ls true e = version_refuses limit acts _ refl (no_acts acts e) (λ h. (let c = h.closed in cc))
 open_refuses limit acts ls false e = form_refuses limit acts _ refl (some_acts acts e) (λ s h. (let c = h.closed in cc))
 
-pub end_open : (limit : ℕ) (all : List Part) (d : Draft) (number : ℕ) (ls : List Lexeme) → is_nothing ls ≡ false → Reached limit all (last_part ls None) d number
+pub end_open : (limit : ℕ) (all : List Part) (d : Draft) (g : Gates) (number : ℕ) (ls : List Lexeme) → is_nothing ls ≡ false → Reached limit all (last_part ls None) d g number
     → Reads limit all (refusal number (no_form (nat_eq number 1)))
-end_open limit all d number ls n r =
+end_open limit all d g number ls n r =
     let p : Part = record { lexemes = ls; closed = false; bad = None } in
     refused_reads limit all number (no_form (nat_eq number 1)) (record {
       good = r.good;
@@ -147,15 +149,15 @@ end_open limit all d number ls n r =
       acts = r.acts;
       split = r.split ∙ ap (λ x. r.good ++ x) (last_open ls n);
       accepted = r.accepted;
-      refuses = open_refuses limit r.acts ls (nat_eq number 1) (number_first limit all d number (last_part ls None) r);
+      refuses = open_refuses limit r.acts ls (nat_eq number 1) (number_first limit all d g number (last_part ls None) r);
       count = r.count;
     })
 
 -- or nothing
-pub end_none : (limit : ℕ) (all : List Part) (d : Draft) (number : ℕ) (ls : List Lexeme) → is_nothing ls ≡ true → all ≢ [] → Reached limit all (last_part ls None) d number
+pub end_none : (limit : ℕ) (all : List Part) (d : Draft) (g : Gates) (number : ℕ) (ls : List Lexeme) → is_nothing ls ≡ true → all ≢ [] → Reached limit all (last_part ls None) d g number
     → Reads limit all (circuit (circuit_in d))
-end_none limit all d number [] n some r = reached_end limit all d number some r
-end_none limit all d number (l ∷ ls) n some r = absurd cc
+end_none limit all d g number [] n some r = reached_end limit all d g number some r
+end_none limit all d g number (l ∷ ls) n some r = absurd cc
 
 -- a text with nothing in it
 pub nothing_reads : (limit : ℕ) (ls : List Lexeme) (bad : Option ℕ) → is_nothing ls ≡ true → bad ≡ None → Reads limit (parts_of ls bad) (refusal 0 NoVersion)
@@ -170,8 +172,8 @@ some_lexemes ls bad n e = let p = (some_parts ls bad e).0 in let q : true ≡ fa
 pub some_bad : (ls : List Lexeme) (bad : Option ℕ) → bad ≢ None → parts_of ls bad ≢ []
 some_bad ls bad n e = n (some_parts ls bad e).1
 
-pub reached_start : (limit : ℕ) (all : List Part) → Reached limit all all (draft_of []) 1
-reached_start limit all = record { good = []; acts = []; split = refl; accepted = tt; follows = follows_none limit; count = refl }
+pub reached_start : (limit : ℕ) (all : List Part) (g : Gates) → Knows [] g → Reached limit all all (draft_of []) g 1
+reached_start limit all g k = record { good = []; acts = []; split = refl; accepted = tt; follows = follows_none limit; knows = k; count = refl }
 
 -- what holds of a refusal holds where it follows
 pub if_refused : {A : Type 0} (r : Result A ReadStop) (P Q : Refusal → Type 0) → ((x : Refusal) → P x → Q x) → IfErr r (λ stop. IfRefused stop P) → IfErr r (λ stop. IfRefused stop Q)

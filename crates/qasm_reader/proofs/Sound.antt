@@ -1,21 +1,20 @@
 -- What a text reads as keeps the limits of a circuit.
-use Rattle.std.proofs.Common.{◌≡◌, sym, refl, subst, ◌⊎◌, inl, inr, ◌≤◌, ℕ, List, [], ◌∷◌, ◌++◌, Option, Some, None, Result, Ok, Err, append_assoc, append-nil}
+use Rattle.std.proofs.Common.{◌≡◌, ◌∙◌, sym, ap, refl, subst, ◌⊎◌, inl, inr, ◌≤◌, ℕ, List, [], ◌∷◌, ◌++◌, Option, Some, None, Result, Ok, Err, append_assoc, append-nil}
 use Rattle.gate_set.specs.Circuits.{Circuit, IsCircuit}
 use Rattle.qasm_forms.specs.Statements.{Statement, version}
 use Rattle.qasm_reader.specs.declared.reason.Why.{Why}
 use Rattle.qasm_reader.specs.declared.reason.Why.TheVariants.{BadByte, NoVersion}
-use Rattle.qasm_reader.specs.Acts.{Act}
+use Rattle.qasm_reader.specs.Acts.{Act, definitions}
 use Rattle.qasm_reader.specs.Parts.{Part, parts_of, Has}
-use Rattle.qasm_reader.specs.Reasons.{IsFree, angles_of, called_in}
+use Rattle.qasm_reader.specs.Reasons.{IsFree}
 use Rattle.qasm_reader.specs.Reading.{Accepts, AllAccepted, Reads, ReadsAs, circuit}
-use Rattle.qasm_reader.specs.Private.Scope.{Taken, Yields}
 use Rattle.qasm_reader.specs.Private.Drafts.{Draft, Follows, draft_of, step}
 use Rattle.qasm_reader.proofs.Good.{has_one}
-use Rattle.qasm_reader.proofs.Deciding.{IsGood}
-use Rattle.qasm_reader.proofs.Yielding.{every_yield}
+use Rattle.qasm_reader.proofs.Deciding.{IsGood, refuses}
 use Rattle.qasm_reader.proofs.Growing.{follows_none}
-use Rattle.qasm_reader.proofs.Following.{concludes}
-use Rattle.qasm_reader.proofs.OneReading.{accepts_one}
+use Rattle.qasm_reader.proofs.Reasoning.{why_of}
+use Rattle.qasm_reader.proofs.Following.{done, tells}
+use Rattle.qasm_reader.proofs.OneReading.{does_one}
 use Rattle.qasm_reader.proofs.EveryReading.{version_or_not}
 
 -- a statement that nothing refuses stands in its place
@@ -33,19 +32,17 @@ free_good limit before part s free h = record { has = h; no_bad = no_bad part.ba
 module _ (limit : ℕ) (few : limit ≤ 64) where
   -- accepted statements keep the limits, one after the other
   follows_one : (before : List Act) (part : Part) (act : Act) → Accepts limit before part act → Follows limit before (draft_of before) → Follows limit (before ++ act ∷ []) (draft_of (before ++ act ∷ []))
-  follows_one before part act a f = by (step limit (draft_of before) a.statement t.0) refl
+  follows_one before part act a f = by (step limit (draft_of before) (definitions before) a.statement) refl
     where
-      t : (t : Taken) × Yields (called_in before a.statement) (angles_of a.statement) t
-      t = every_yield (called_in before a.statement) (angles_of a.statement)
-
       good : IsGood before part a.statement
       good = free_good limit before part a.statement a.free a.has
 
-      by : (r : Result Draft Why) → step limit (draft_of before) a.statement t.0 ≡ r → Follows limit (before ++ act ∷ []) (draft_of (before ++ act ∷ []))
+      by : (r : Result Draft Why) → step limit (draft_of before) (definitions before) a.statement ≡ r → Follows limit (before ++ act ∷ []) (draft_of (before ++ act ∷ []))
       by (Ok d) h =
-          let x = concludes limit few before (draft_of before) f part a.statement t.0 good t.1 None d (sym h) in
-          subst (λ b. Follows limit (before ++ b ∷ []) (draft_of (before ++ b ∷ []))) (accepts_one limit before part x.0 act x.1 a) (subst (Follows limit (before ++ x.0 ∷ [])) (x.2).is x.2)
-      by (Err w) h = absurd (a.free w (concludes limit few before (draft_of before) f part a.statement t.0 good t.1 (Some w) (draft_of before) (sym h)).holds)
+          let x = done limit few before (draft_of before) f a.statement d h in
+          let same : x.0 ≡ act = does_one before f.sound a.statement x.0 act x.1 a.does in
+          subst (λ b. Follows limit (before ++ b ∷ []) (draft_of (before ++ b ∷ []))) same (subst (Follows limit (before ++ x.0 ∷ [])) (x.2).is x.2)
+      by (Err w) h = absurd (a.free w (refuses limit before f.sound part a.statement good w (sym (tells limit few before (draft_of before) f part a.statement good) ∙ ap why_of h)).holds)
 
   follows_all : (before : List Act) (parts : List Part) (acts : List Act) → AllAccepted limit before parts acts → Follows limit before (draft_of before) → Follows limit (before ++ acts) (draft_of (before ++ acts))
   follows_all before [] [] all f = subst (λ b. Follows limit b (draft_of b)) (sym (append-nil before)) f

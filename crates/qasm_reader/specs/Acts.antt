@@ -1,13 +1,13 @@
 -- What statements do, one after the other: registers, qubits, gates, measured qubits.
-use Rattle.std.specs.Prelude.{ℕ, ◌+◌, Bool, true, false, nat_eq, List, [], ◌∷◌, ◌++◌, map, flat_map, filter_map, get_or, Option, Some, None, option_map, option_and_then}
-use Rattle.std.specs.List.{list_any}
+use Rattle.std.specs.Prelude.{ℕ, ◌+◌, ◌*◌, Bool, true, false, nat_eq, List, [], ◌∷◌, ◌++◌, map, flat_map, filter_map, get_or, Option, Some, None, option_map, option_and_then}
+use Rattle.std.specs.List.{list_any, sum_by}
 use Rattle.std.specs.Str.{bytes_eq}
 use Rattle.std.specs.Map.{lookup}
 use Rattle.gate_set.specs.declared.gate.Gate.{Gate}
 use Rattle.gate_set.specs.Circuits.{Circuit}
 use Rattle.qasm_lex.specs.Symbols.{decimal}
 use Rattle.qasm_forms.specs.Statements.{Argument}
-use Rattle.qasm_gates.specs.Gates.{Item, up_to, placed}
+use Rattle.qasm_gates.specs.Gates.{Item, Named, up_to, placed}
 
 -- a declared register: whether it holds qubits, the number of its first qubit, and how many places it has
 pub record Register : Type 0 where
@@ -24,9 +24,11 @@ pub data Act : Type 0 where
   nothing : Act
   -- a register of qubits, or of bits, with its name and its size
   declares : Bool → List ℕ → ℕ → Act
+  -- a gate by its name
+  defines : List ℕ → Named → Act
   measures : Target → Act
-  -- these gates on the arguments, at each place of them in turn
-  applies : List Item → List Target → Act
+  -- a call of a gate of so many items: these gates on the arguments, at each place of them in turn
+  applies : ℕ → List Item → List Target → Act
 
 abbrev pub qubits_in : Act → ℕ
 qubits_in (declares true name size) = size
@@ -95,11 +97,27 @@ abbrev pub product : List Item → List Target → List Gate
 product items ts = flat_map (λ place. map (placed (qubits_at ts place)) items) (up_to (place_count ts))
 
 abbrev pub gates_in : Act → List Gate
-gates_in (applies items ts) = product items ts
+gates_in (applies count items ts) = product items ts
 gates_in _ = []
 
 abbrev pub gates : List Act → List Gate
 gates acts = flat_map gates_in acts
+
+-- the items that a call counts
+abbrev pub items_in : Act → ℕ
+items_in (applies count items ts) = count * place_count ts
+items_in _ = 0
+
+abbrev pub item_count : List Act → ℕ
+item_count acts = sum_by items_in acts
+
+-- gates that are defined, by name
+abbrev pub defined_in : Act → List (List ℕ × Named)
+defined_in (defines name gate) = (name, gate) ∷ []
+defined_in _ = []
+
+abbrev pub definitions : List Act → List (List ℕ × Named)
+definitions acts = flat_map defined_in acts
 
 -- the qubits of an argument, place by place
 abbrev pub qubits_of : Target → List ℕ

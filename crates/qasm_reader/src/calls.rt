@@ -1,61 +1,112 @@
-//! Calls of gates: why they are refused, and what they do.
-ghost use Rattle.std.specs.Prelude.{◌≡◌, ◌+◌, ◌*◌, ◌≤◌, true, false, min, length, ℕ, List, Some, IfOk, slice_get};
-ghost use Rattle.std.specs.Option.{option_to_list};
+//! Calls of gates: what their arguments mean, and what is told of them before anything is done.
+ghost use Rattle.std.specs.Prelude.{◌≡◌, ◌≤◌, ◌||◌, ℕ, List, true, false, min, take, nat_lt, length, map, Some, IfOk, option_map};
+ghost use Rattle.std.specs.Option.{option_or};
 ghost use Rattle.std.specs.List.{list_any};
-ghost use Rattle.qasm_lex.specs.Lexemes.{Lexeme};
-ghost use Rattle.qasm_reader.specs.Acts.{targets};
-ghost use Rattle.gate_set.specs.Matrix.{arity_of, IsKind};
-ghost use Rattle.qasm_gates.specs.Gates.{turn, phase, builtin, base_arity, angle_count};
+ghost use Rattle.qasm_gates.specs.Private.Counts.{seen_values};
+ghost use Rattle.qasm_gates.specs.Private.Views.{IsGates, IsKnown, callee_gate};
+ghost use Rattle.qasm_reader.specs.Acts.{Target as Meant, targets, wholes};
 ghost use Rattle.qasm_reader.specs.Calls.{listed};
 ghost use Rattle.qasm_reader.specs.Reasons.{is_unknown, is_beyond};
-ghost use Rattle.qasm_gates.specs.Private.Seen.{seen_base, seen_builtin};
-ghost use Rattle.qasm_reader.specs.Private.Seen.{seen_targets, seen_find};
-ghost use Rattle.qasm_reader.specs.Private.Scope.{Taken, Yields, seen_found, noted, bodies, outcome_on};
-ghost use Rattle.qasm_reader.specs.Private.Drafts.{bodied};
+ghost use Rattle.qasm_reader.specs.Private.Seen.{seen_target, seen_targets, seen_find};
+ghost use Rattle.qasm_reader.specs.Private.Meanings.{outcomes_in};
+ghost use Rattle.qasm_reader.specs.Private.Scope.{seen_found, noted, next_count, many, other_size, differ, repeats, wrong_counts};
 
-use crate::reason::Why;
 use crate::registers::{Miss, Registers, Target};
-use crate::targets::{places, repeats, sizes_differ, touches};
+use crate::targets::repeats;
 use arrayvec::ArrayVec;
-use gate_set::Kind;
-use qasm_forms::{Angles, Arguments, Lexemes};
-use qasm_gates::{Base, Builtin, turns};
-use qasm_lex::{eighth, quarter};
+use bit_lists::OutOfMemory;
+use qasm_forms::{Angles, Arguments};
+use qasm_gates::{Callee, Gates};
+use qasm_lex::{AngleRefusal, Bound};
+use std::alloc::Global;
 
-/// The most gates of a circuit.
-const MOST_GATES: u64 = 1000000;
+/// More arguments, or angles, than any gate has.
+const MANY: u64 = 4294967296;
 
-/// More arguments than any gate has.
-const MANY: u8 = 12;
-
-/// What the arguments of a statement mean: the first eleven of them, how many there are, counted up to 12, and whether some miss.
+/// What the arguments of a statement mean: the first 64 of them, which are as many as qubits can be, how many there are, counted up to 2^32, whether some miss, the size of the
+/// first that is a whole register, and whether another one differs from it.
 #[derive(Drop)]
 pub struct Found {
-    pub targets: ArrayVec<Target, 11>,
-    pub count: u8,
+    pub targets: ArrayVec<Target, 64>,
+    pub count: u64,
     pub unknown: bool,
     pub beyond: bool,
+    pub size: Option<u32>,
+    pub differ: bool,
+}
+
+/// The values of the angles of a call, or the first refusal.
+pub type Values = Result<Vec<Bound>, AngleRefusal>;
+
+// One more, counted up to 2^32.
+fn next_count(count: u64) -> u64
+    ensures { result ≡ next_count count }
+{
+    if count < MANY { count + 1 } else { count }
+}
+
+// The size of a whole register.
+fn size_of(target: Target) -> Option<u32>
+    ensures { result ≡ (seen_target target).size }
+{
+    match target.index {
+        None => Some(target.register.size),
+        Some(_) => None,
+    }
+}
+
+fn other_size(size: Option<u32>, more: Option<u32>) -> bool
+    ensures { result ≡ other_size size more }
+{
+    match size {
+        Some(n) => match more {
+            Some(m) => m != n,
+            None => false,
+        },
+        None => false,
+    }
 }
 
 impl Found {
+    // One argument more that means something.
+    fn keep(&mut self, target: Target)
+        requires { length self.old.targets.items ≤ 64 }
+        ensures noted { seen_found self.new ≡ noted (seen_found self.old) (Ok (seen_target target)) }
+        ensures few { length self.new.targets.items ≤ 64 }
+    {
+        let size = size_of(target);
+        self.differ = self.differ || other_size(self.size, size);
+        self.size = self.size.or(size);
+        if self.targets.len() < 64 {
+            self.targets.push(target);
+        }
+        self.count = next_count(self.count);
+    }
+
     // One argument more.
     fn note(&mut self, found: Result<Target, Miss>)
-        requires { length self.old.targets.items ≤ 11 }
+        requires { length self.old.targets.items ≤ 64 }
         ensures noted { seen_found self.new ≡ noted (seen_found self.old) (seen_find found) }
-        ensures few { length self.new.targets.items ≤ 11 }
+        ensures few { length self.new.targets.items ≤ 64 }
     {
         match found {
-            Ok(target) => {
-                if self.targets.len() < 11 {
-                    self.targets.push(target);
-                }
+            Ok(target) => self.keep(target),
+            Err(Miss::Unknown) => {
+                self.unknown = true;
+                self.count = next_count(self.count);
             }
-            Err(Miss::Unknown) => self.unknown = true,
-            Err(Miss::Beyond) => self.beyond = true,
+            Err(Miss::Beyond) => {
+                self.beyond = true;
+                self.count = next_count(self.count);
+            }
         }
-        if self.count < MANY {
-            self.count += 1;
-        }
+    }
+
+    /// Whether one of the repeated calls has a qubit twice. Of more than 64 arguments of one size one has.
+    pub fn repeats(&self) -> bool
+        ensures { result ≡ nat_lt 64 self.now.count || repeats (seen_targets self.now.targets.items) }
+    {
+        self.count > 64 || repeats(self.targets.as_slice())
     }
 }
 
@@ -63,8 +114,8 @@ impl Found {
 pub fn look_up(registers: &Registers<'_>, arguments: Arguments<'_>) -> Found
     ensures unknown { result.unknown ≡ list_any (is_unknown registers.now true) arguments.entry }
     ensures beyond { result.unknown ≡ false → result.beyond ≡ list_any (is_beyond registers.now) arguments.entry }
-    ensures count { result.count ≡ min (length arguments.entry) 12 }
-    ensures means { result.unknown ≡ false → result.beyond ≡ false → length arguments.entry ≤ 11 → targets registers.now arguments.entry ≡ Some (seen_targets result.targets.items) }
+    ensures count { result.count ≡ min (length arguments.entry) many }
+    ensures means { result.unknown ≡ false → result.beyond ≡ false → (ts : List Meant) × (targets registers.now arguments.entry ≡ Some ts) × (seen_targets result.targets.items ≡ take 64 ts) × (result.differ ≡ differ (wholes ts)) }
 {
     let mut rest = arguments.ahead();
     let mut found = Found {
@@ -72,6 +123,8 @@ pub fn look_up(registers: &Registers<'_>, arguments: Arguments<'_>) -> Found
         count: 0,
         unknown: false,
         beyond: false,
+        size: None,
+        differ: false,
     };
     while let Some(argument) = rest.next() {
         found.note(registers.find(&argument, true));
@@ -79,94 +132,63 @@ pub fn look_up(registers: &Registers<'_>, arguments: Arguments<'_>) -> Found
     found
 }
 
-/// The first angle of a call, and how many there are, counted up to 2.
-pub fn first_angle(angles: Option<Angles<'_>>) -> (Option<Lexemes<'_>>, u8)
-    ensures first { result.0 ≡ slice_get (listed angles.entry) 0 }
-    ensures count { result.1 ≡ min (length (listed angles.entry)) 2 }
+// How many angles are left, counted up to 2^32.
+#[tactic(auto, using(crate::proofs::Looking::counted_more))]
+fn count_rest(angles: Angles<'_>) -> u64
+    ensures { result ≡ min (length angles.entry) many }
 {
-    let Some(mut rest) = angles else {
-        return (None, 0);
-    };
-    let Some(first) = rest.next() else {
-        return (None, 0);
-    };
-    if rest.next().is_some() {
-        (Some(first), 2)
-    } else {
-        (Some(first), 1)
+    let mut rest = angles.ahead();
+    let mut count = 0;
+    while let Some(_) = rest.next() {
+        count = next_count(count);
+    }
+    count
+}
+
+/// How many angles a call has, counted up to 2^32.
+pub fn count_angles(angles: &Option<Angles<'_>>) -> u64
+    ensures { result ≡ min (length (listed angles.now)) many }
+{
+    match angles {
+        Some(all) => count_rest(all.ahead()),
+        None => 0,
     }
 }
 
-// How the turns by an angle are done.
-fn turned(forth: Kind, back: Kind, angle: &Lexemes<'_>) -> Result<(Kind, u8), Why>
-    ensures yields { (n : ℕ) (t : Taken) → Yields (Some (record { controls = n; base = turn forth back })) (option_to_list (Some angle.now)) t → bodies n result ≡ bodied t }
-    ensures arity { arity_of forth ≡ 1 → arity_of back ≡ 1 → IfOk result (λ p. arity_of p.0 ≡ 1) }
-    ensures power { IsKind forth → IsKind back → IfOk result (λ p. IsKind p.0) }
+/// Whether a gate has other counts of arguments and angles than these, which are counted up to 2^32.
+pub fn miscounts(gates: &Gates<'_>, callee: Callee, arguments: u64, angles: u64) -> bool
+    requires gates { IsGates gates.now }
+    requires known { IsKnown gates.now callee }
+    ensures { (n k : ℕ) → arguments ≡ min n many → angles ≡ min k many → result ≡ wrong_counts (callee_gate gates.now callee) n k }
 {
-    match angle.fraction() {
-        Err(refusal) => Err(Why::AngleRefused(refusal)),
-        Ok(f) => match quarter(f) {
-            Some(quarters) => Ok(turns(forth, back, quarters)),
-            None => Err(Why::OffGrid),
-        },
-    }
+    arguments != u64::from(gates.arity(callee)) || angles != u64::from(gates.angle_count(callee))
 }
 
-// The phase by an angle.
-fn phased(angle: &Lexemes<'_>) -> Result<(Kind, u8), Why>
-    ensures yields { (n : ℕ) (t : Taken) → Yields (Some (record { controls = n; base = phase })) (option_to_list (Some angle.now)) t → bodies n result ≡ bodied t }
-    ensures arity { IfOk result (λ p. arity_of p.0 ≡ 1) }
-    ensures power { IfOk result (λ p. IsKind p.0) }
+// The values of angles, or the first refusal.
+fn each_value(alloc: Global, angles: Angles<'_>) -> Result<Values, OutOfMemory>
+    ensures { IfOk result (λ v. seen_values v ≡ outcomes_in angles.entry) }
 {
-    match angle.fraction() {
-        Err(refusal) => Err(Why::AngleRefused(refusal)),
-        Ok(f) => match eighth(f) {
-            Some(eighths) => Ok((Kind::Phase(eighths), 1)),
-            None => Err(Why::OffGrid),
-        },
+    let mut out = Vec::new(alloc);
+    let mut rest = angles.ahead();
+    while let Some(angle) = rest.next() {
+        match angle.value() {
+            Ok(value) => out.push(Bound {
+                from: 0,
+                to: 0,
+                value,
+            })?,
+            Err(refusal) => return Ok(Err(refusal)),
+        }
     }
+    Ok(Ok(out))
 }
 
-/// How often a gate of which kind is done at each place, by the angle of the call where the gate has one.
-pub fn body_of(gate: Builtin, angle: Option<Lexemes<'_>>) -> Result<(Kind, u8), Why>
-    ensures arity { (name : List ℕ) → builtin name ≡ Some (seen_builtin gate) → IfOk result (λ p. arity_of p.0 ≡ base_arity (seen_base gate.base)) }
-    ensures power { (name : List ℕ) → builtin name ≡ Some (seen_builtin gate) → IfOk result (λ p. IsKind p.0) }
-    ensures yields { (t : Taken) → Yields (Some (seen_builtin gate)) (option_to_list angle.entry) t → length (option_to_list angle.entry) ≡ angle_count (seen_builtin gate) → bodies gate.controls result ≡ bodied t }
+/// The values of the angles of a call, or the first refusal.
+pub fn values_of(alloc: Global, angles: Option<Angles<'_>>) -> Result<Values, OutOfMemory>
+    ensures { IfOk result (λ v. seen_values v ≡ outcomes_in (listed angles.entry)) }
 {
-    match gate.base {
-        Base::Gate(kind) => Ok((kind, 1)),
-        Base::Turn(forth, back) => match angle {
-            Some(angle) => turned(forth, back, &angle),
-            None => Err(Why::WrongCount),
-        },
-        Base::Phase => match angle {
-            Some(angle) => phased(&angle),
-            None => Err(Why::WrongCount),
-        },
+    match angles {
+        Some(all) => each_value(alloc, all),
+        None => Ok(Ok(Vec::new(alloc))),
     }
-}
-
-/// Why a call on these targets is refused, or how often a gate of which kind is done at each place.
-pub fn outcome_on(
-    body: Result<(Kind, u8), Why>,
-    targets: &[Target],
-    flags: &[bool],
-    gates: u32,
-) -> Result<(Kind, u8), Why>
-    ensures { result ≡ outcome_on body (seen_targets targets.now) flags.now gates }
-{
-    if sizes_differ(targets) {
-        return Err(Why::SizesDiffer);
-    }
-    if repeats(targets) {
-        return Err(Why::RepeatedQubit);
-    }
-    let (kind, times) = body?;
-    if touches(flags, targets) {
-        return Err(Why::Measured);
-    }
-    if u64::from(gates) + u64::from(times) * u64::from(places(targets)) > MOST_GATES {
-        return Err(Why::TooManyGates);
-    }
-    Ok((kind, times))
 }

@@ -1,16 +1,19 @@
 //! The circuit of the statements so far with its registers, and statements carried out on it.
-ghost use Rattle.std.specs.Prelude.{◌≡◌, ◌≤◌, ◌<◌, ◌++◌, ◌∷◌, [], ℕ, List, length, replicate, false, cond, Some, None, IfOk, OnOk};
+ghost use Rattle.std.specs.Prelude.{◌≡◌, ◌+◌, ◌*◌, ◌≤◌, ◌<◌, ◌++◌, ◌∷◌, [], ℕ, length, replicate, false, cond, Some, None, IfOk, OnOk};
 ghost use Rattle.gate_set.specs.Circuits.{IsCircuit};
 ghost use Rattle.qasm_lex.specs.Symbols.{decimal, number_below};
+ghost use Rattle.qasm_lex.specs.Angles.{given_by};
 ghost use Rattle.qasm_forms.specs.Shown.{shown};
-ghost use Rattle.qasm_reader.specs.Acts.{place_count, qubit_at, qubits_of};
-ghost use Rattle.qasm_gates.specs.Gates.{builtin};
+ghost use Rattle.qasm_gates.specs.Gates.{gate_in};
+ghost use Rattle.qasm_gates.specs.Private.Proper.{AreQubits};
+ghost use Rattle.qasm_gates.specs.Private.Views.{view_of, IsGates, IsKnown, callee_gate};
+ghost use Rattle.qasm_reader.specs.Acts.{place_count, qubit_at, qubits_at, qubits_of};
 ghost use Rattle.qasm_reader.specs.Calls.{listed};
-ghost use Rattle.qasm_reader.specs.Reasons.{is_declared, no_size, angles_of, called_in};
+ghost use Rattle.qasm_reader.specs.Reasons.{is_declared, no_size};
 ghost use Rattle.qasm_reader.specs.declared.reason.Why.TheVariants.{Redeclared};
-ghost use Rattle.qasm_gates.specs.Private.Seen.{seen_builtin};
-ghost use Rattle.qasm_reader.specs.Private.Seen.{seen_target, seen_find, seen_both};
-ghost use Rattle.qasm_reader.specs.Private.Scope.{Taken, Yields, both_found};
+ghost use Rattle.qasm_reader.specs.Private.Seen.{seen_target, seen_targets, seen_find, seen_both};
+ghost use Rattle.qasm_reader.specs.Private.Meanings.{meaning_of};
+ghost use Rattle.qasm_reader.specs.Private.Scope.{both_found};
 ghost use Rattle.qasm_reader.specs.Private.Drafts.{
   Draft as Shown,
   IsDraft,
@@ -22,26 +25,34 @@ ghost use Rattle.qasm_reader.specs.Private.Drafts.{
   barrier_on,
   raised,
   measure_on,
+  judged,
+  itemed,
   gate_on,
   call_on,
   step,
 };
 
 use crate::apply::apply;
-use crate::calls::{body_of, first_angle, look_up, outcome_on};
+use crate::calls::{count_angles, look_up, miscounts, values_of};
 use crate::reason::Why;
 use crate::registers::{Miss, Register, Registers, Target};
-use crate::targets::qubit_at;
+use crate::targets::{places, qubit_at, touches};
 use bit_lists::OutOfMemory;
 use gate_set::{Circuit, Gate};
 use qasm_forms::{Angles, Argument, Arguments, Form};
-use qasm_gates::{Builtin, KeyedNames, builtin_named};
-use qasm_lex::number_below;
+use qasm_gates::{Callee, Gates, KeyedNames};
+use qasm_lex::{Bound, number_below};
 use std::alloc::Global;
 use std::marker::Model;
 
 /// More than the most places of a register.
 const PAST_SIZES: u64 = 1000001;
+
+/// The most gates of a circuit.
+const MOST_GATES: u64 = 1000000;
+
+/// The most items of all calls.
+const MOST_ITEMS: u64 = 4000000;
 
 /// The circuit of the statements so far, with its registers.
 #[derive(Drop)]
@@ -50,6 +61,7 @@ pub struct Draft<'a> {
     qubits: u32,
     gates: Vec<Gate>,
     measured: Vec<bool>,
+    items: u32,
 }
 
 impl<'a> Model for Draft<'a> {
@@ -57,7 +69,7 @@ impl<'a> Model for Draft<'a> {
 
     ghost Value = { Shown };
 
-    ghost view = { λ d. record { registers = d.registers; qubits = d.qubits; gates = d.gates.items; measured = d.measured.items } };
+    ghost view = { λ d. record { registers = d.registers; qubits = d.qubits; gates = d.gates.items; measured = d.measured.items; items = d.items } };
 }
 
 // The size of a register, where it is one.
@@ -136,6 +148,7 @@ impl<'a> Draft<'a> {
             qubits: 0,
             gates: Vec::new(alloc),
             measured: Vec::new(alloc),
+            items: 0,
         }
     }
 
@@ -240,17 +253,85 @@ impl<'a> Draft<'a> {
         }
     }
 
+    // Adds the gates of a call whose angles have these values.
+    fn call_with(
+        &mut self,
+        alloc: Global,
+        known: &Gates<'_>,
+        callee: Callee,
+        bound: &[Bound],
+        targets: &[Target],
+        items: u32,
+    ) -> Result<Option<Why>, OutOfMemory>
+        requires draft { IsDraft self.old }
+        requires gates { IsGates known.now }
+        requires callee { IsKnown known.now callee }
+        requires counted { length bound.now ≡ (callee_gate known.now callee).angles }
+        requires few { length targets.now ≤ 64 }
+        requires few_items { self.old.items + items ≤ 4000000 }
+        requires placed { (place : ℕ) → place < place_count (seen_targets targets.now) → AreQubits (callee_gate known.now callee).arity (qubits_at (seen_targets targets.now) place) }
+        ensures { IfOk result (λ why. outcome why self.new ≡ judged self.old items ((callee_gate known.now callee).means (given_by bound.now)) (seen_targets targets.now)) }
+    {
+        match known.judge(alloc, callee, bound)? {
+            Err(refusal) => Ok(Some(Why::AngleRefused(refusal))),
+            Ok(None) => Ok(Some(Why::OffGrid)),
+            Ok(Some(times)) => {
+                if touches(&self.measured, targets) {
+                    return Ok(Some(Why::Measured));
+                }
+                if self.gates.len() as u64 + u64::from(times) * u64::from(places(targets))
+                    > MOST_GATES
+                {
+                    return Ok(Some(Why::TooManyGates));
+                }
+                apply(alloc, known, callee, bound, targets, &mut self.gates)?;
+                self.items += items;
+                Ok(None)
+            }
+        }
+    }
+
+    // Calls a gate on targets that are different at each place.
+    fn call_on(
+        &mut self,
+        alloc: Global,
+        known: &Gates<'_>,
+        callee: Callee,
+        angles: Option<Angles<'_>>,
+        targets: &[Target],
+    ) -> Result<Option<Why>, OutOfMemory>
+        requires draft { IsDraft self.old }
+        requires gates { IsGates known.now }
+        requires callee { IsKnown known.now callee }
+        requires counted { length (listed angles) ≡ (callee_gate known.now callee).angles }
+        requires few { length targets.now ≤ 64 }
+        requires placed { (place : ℕ) → place < place_count (seen_targets targets.now) → AreQubits (callee_gate known.now callee).arity (qubits_at (seen_targets targets.now) place) }
+        ensures { IfOk result (λ why. outcome why self.new ≡ itemed self.old ((callee_gate known.now callee).items * place_count (seen_targets targets.now)) (meaning_of (callee_gate known.now callee) (listed angles.entry)) (seen_targets targets.now)) }
+    {
+        let (_, items) = known.counts(callee);
+        let items = u64::from(items) * u64::from(places(targets));
+        if u64::from(self.items) + items > MOST_ITEMS {
+            return Ok(Some(Why::TooManyItems));
+        }
+        match values_of(alloc, angles)? {
+            Err(refusal) => Ok(Some(Why::AngleRefused(refusal))),
+            Ok(bound) => self.call_with(alloc, known, callee, &bound, targets, items as u32),
+        }
+    }
+
     // Calls a gate.
     fn call_gate(
         &mut self,
         alloc: Global,
-        gate: Builtin,
+        known: &Gates<'_>,
+        callee: Callee,
         angles: Option<Angles<'_>>,
         arguments: Arguments<'_>,
     ) -> Result<Option<Why>, OutOfMemory>
         requires draft { IsDraft self.old }
-        requires named { (name : List ℕ) × (builtin name ≡ Some (seen_builtin gate)) }
-        ensures { IfOk result (λ why. (t : Taken) → Yields (Some (seen_builtin gate)) (listed angles.entry) t → outcome why self.new ≡ gate_on self.old (seen_builtin gate) (length (listed angles.entry)) t arguments.entry) }
+        requires gates { IsGates known.now }
+        requires callee { IsKnown known.now callee }
+        ensures { IfOk result (λ why. outcome why self.new ≡ gate_on self.old (callee_gate known.now callee) (listed angles.entry) arguments.entry) }
     {
         let found = look_up(&self.registers, arguments);
         if found.unknown {
@@ -259,41 +340,33 @@ impl<'a> Draft<'a> {
         if found.beyond {
             return Ok(Some(Why::IndexOutOfRange));
         }
-        let (angle, count) = first_angle(angles);
-        if !gate.has_counts(found.count, count) {
+        if miscounts(known, callee, found.count, count_angles(&angles)) {
             return Ok(Some(Why::WrongCount));
         }
-        let body = body_of(gate, angle);
-        let gates = self.gates.len() as u32;
-        match outcome_on(body, found.targets.as_slice(), &self.measured, gates) {
-            Err(why) => Ok(Some(why)),
-            Ok((kind, times)) => {
-                apply(
-                    alloc,
-                    gate.controls,
-                    kind,
-                    times,
-                    found.targets.as_slice(),
-                    &mut self.gates,
-                )?;
-                Ok(None)
-            }
+        if found.differ {
+            return Ok(Some(Why::SizesDiffer));
         }
+        if found.repeats() {
+            return Ok(Some(Why::RepeatedQubit));
+        }
+        self.call_on(alloc, known, callee, angles, found.targets.as_slice())
     }
 
     fn call(
         &mut self,
         alloc: Global,
+        known: &Gates<'_>,
         name: &[u8],
         angles: Option<Angles<'_>>,
         arguments: Arguments<'_>,
     ) -> Result<Option<Why>, OutOfMemory>
-        requires { IsDraft self.old }
-        ensures { IfOk result (λ why. (t : Taken) → Yields (builtin name.now) (listed angles.entry) t → outcome why self.new ≡ call_on self.old (builtin name.now) (length (listed angles.entry)) t arguments.entry) }
+        requires draft { IsDraft self.old }
+        requires gates { IsGates known.now }
+        ensures { IfOk result (λ why. outcome why self.new ≡ call_on self.old (gate_in (view_of known.now).definitions name.now) (listed angles.entry) arguments.entry) }
     {
-        match builtin_named(name) {
+        match known.find(name) {
             None => Ok(Some(Why::UnknownName)),
-            Some(gate) => self.call_gate(alloc, gate, angles, arguments),
+            Some(callee) => self.call_gate(alloc, known, callee, angles, arguments),
         }
     }
 
@@ -301,11 +374,13 @@ impl<'a> Draft<'a> {
     pub fn carry_out(
         &mut self,
         alloc: Global,
+        known: &Gates<'a>,
         form: Form<'a>,
         limit: u8,
     ) -> Result<Option<Why>, OutOfMemory>
-        requires { IsDraft self.old }
-        ensures { IfOk result (λ why. (t : Taken) → Yields (called_in [] (shown form.entry)) (angles_of (shown form.entry)) t → outcome why self.new ≡ step limit self.old (shown form.entry) t) }
+        requires draft { IsDraft self.old }
+        requires gates { IsGates known.now }
+        ensures { IfOk result (λ why. outcome why self.new ≡ step limit self.old (view_of known.now).definitions (shown form.entry)) }
     {
         match form {
             Form::Version => Ok(None),
@@ -314,7 +389,9 @@ impl<'a> Draft<'a> {
             Form::Bits(name, size) => self.declare_bits(name, size),
             Form::Barrier(arguments) => Ok(self.barrier(arguments)),
             Form::Measure(from, to) => Ok(self.measure(&from, &to)),
-            Form::Call(name, angles, arguments) => self.call(alloc, name, angles, arguments),
+            Form::Call(name, angles, arguments) => {
+                self.call(alloc, known, name, angles, arguments)
+            }
             Form::Definition(_, _, _, _) | Form::LeftOut(_, _, _) => Ok(Some(Why::OutOfProfile)),
         }
     }

@@ -7,6 +7,7 @@ mod apply;
 mod calls;
 mod draft;
 mod laws;
+mod profile;
 mod reader;
 mod reason;
 mod registers;

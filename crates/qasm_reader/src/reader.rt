@@ -1,25 +1,24 @@
 //! Circuits read from texts.
 ghost use Rattle.std.specs.Prelude.{◌≡◌, ◌≢◌, ◌≤◌, ℕ, List, [], false, nat_eq, length, IfOk, IfErr};
-ghost use Rattle.std.specs.List.{list_any};
-ghost use Rattle.std.specs.Str.{bytes_eq};
 ghost use Rattle.gate_set.specs.Circuits.{IsCircuit};
-ghost use Rattle.qasm_forms.specs.Cutting.{begins_left};
+ghost use Rattle.qasm_gates.specs.declared.gates.Gates.{Gates as Known};
+ghost use Rattle.qasm_gates.specs.Private.Views.{IsGates};
 ghost use Rattle.qasm_forms.specs.Shown.{shown};
 ghost use Rattle.qasm_forms.specs.Private.Fronts.{seen_end};
 ghost use Rattle.qasm_reader.specs.Acts.{Act};
-ghost use Rattle.qasm_reader.specs.Profile.{leaves, words_left_out};
 ghost use Rattle.qasm_reader.specs.Parts.{Part, last_part, parts_of};
 ghost use Rattle.qasm_reader.specs.Reading.{Reading, ReadsAs, Reads, IfRefused, Says, circuit, refusal};
 ghost use Rattle.qasm_reader.specs.declared.reason.ReadStop.TheVariants.{Refused};
-ghost use Rattle.qasm_reader.specs.Private.Drafts.{IsDraft, Follows, Concludes, Reached, ended_part, is_version, no_form};
+ghost use Rattle.qasm_reader.specs.Private.Drafts.{IsDraft, Follows, Knows, Concludes, Reached, ended_part, is_version, no_form};
 
 use crate::draft::Draft;
+use crate::profile::begins_left;
 use crate::reason::{ReadStop, Refusal, Why};
 use bit_lists::OutOfMemory;
 use gate_set::Circuit;
 use qasm_forms::{Closing, Form, Lexemes, read_statement};
-use qasm_gates::KeyedNames;
-use qasm_lex::{is_one_of, tokens};
+use qasm_gates::{Gates, KeyedNames};
+use qasm_lex::tokens;
 use std::alloc::Global;
 
 /// The circuit that a text of OpenQASM 2.0 reads as, or its refusal: the first reason of its first bad statement.
@@ -65,12 +64,21 @@ fn read_statements(
         return Err(refused(0, Why::NoVersion));
     }
     let mut draft = Draft::new(alloc, names);
+    let gates = Gates::new(alloc, names);
     let mut number = 1;
     'statements: loop {
         let Some((mut part, end)) = lexemes.statement() else {
             return read_end(lexemes, bad, number, draft);
         };
-        let conclusion = follow(alloc, &mut part, end, number == 1, limit, &mut draft)?;
+        let conclusion = follow(
+            alloc,
+            &mut part,
+            end,
+            number == 1,
+            limit,
+            &gates,
+            &mut draft,
+        )?;
         if let Some(why) = conclusion {
             return Err(refused(number, why));
         }
@@ -87,9 +95,9 @@ fn read_end(
     draft: Draft<'_>,
 ) -> Result<Circuit, ReadStop>
     requires { IsDraft draft }
-    ensures circuit { IfOk result (λ c. (limit : ℕ) (all : List Part) → all ≢ [] → Reached limit all (last_part rest.now bad) draft.entry number → Reads limit all (circuit c)) }
+    ensures circuit { IfOk result (λ c. (limit : ℕ) (all : List Part) (gates : Known) → all ≢ [] → Reached limit all (last_part rest.now bad) draft.entry gates number → Reads limit all (circuit c)) }
     ensures sound { IfOk result (λ c. IsCircuit c) }
-    ensures refused { IfErr result (λ stop. IfRefused stop (λ r. (limit : ℕ) (all : List Part) → Reached limit all (last_part rest.now bad) draft.entry number → Reads limit all (refusal r.statement r.why))) }
+    ensures refused { IfErr result (λ stop. IfRefused stop (λ r. (limit : ℕ) (all : List Part) (gates : Known) → Reached limit all (last_part rest.now bad) draft.entry gates number → Reads limit all (refusal r.statement r.why))) }
 {
     if let Some(place) = bad {
         return Err(refused(number, Why::BadByte(place)));
@@ -121,28 +129,6 @@ fn is_version(form: &Form<'_>) -> bool
     }
 }
 
-// Whether a word is one with which statements begin that are left out.
-fn is_left_out(first: &[u8]) -> bool
-    ensures { result ≡ list_any (bytes_eq first.now) words_left_out }
-{
-    is_one_of(
-        first,
-        &[
-            b"gate", b"opaque", b"reset", b"if", b"U", b"CX", b"rz", b"u2", b"u3", b"crz", b"cu3",
-        ],
-    )
-}
-
-// Whether the statement is left out.
-fn begins_left(part: &Lexemes<'_>) -> bool
-    ensures { result ≡ begins_left (leaves []) part.now }
-{
-    match part.first_word() {
-        Some(first) => is_left_out(first),
-        None => false,
-    }
-}
-
 // Reads a statement, without its end, and carries it out. Why it is refused, if it is.
 fn follow<'a>(
     alloc: Global,
@@ -150,18 +136,20 @@ fn follow<'a>(
     end: Closing,
     first: bool,
     limit: u8,
+    gates: &Gates<'a>,
     draft: &mut Draft<'a>,
 ) -> Result<Option<Why>, OutOfMemory>
     requires draft { IsDraft draft.old }
+    requires gates { IsGates gates.now }
     requires few { limit ≤ 64 }
-    ensures { IfOk result (λ why. (before : List Act) → Follows limit before draft.old → first ≡ nat_eq (length before) 0 → Concludes limit before (ended_part part.old (seen_end end)) why draft.new) }
+    ensures { IfOk result (λ why. (before : List Act) → Follows limit before draft.old → Knows before gates.now → first ≡ nat_eq (length before) 0 → Concludes limit before (ended_part part.old (seen_end end)) why draft.new gates.now) }
 {
-    let left = begins_left(part);
+    let left = begins_left(part, gates);
     let Some(form) = read_statement(part, left, end) else {
         return Ok(Some(no_form(first)));
     };
     if is_version(&form) != first {
         return Ok(Some(no_form(first)));
     }
-    draft.carry_out(alloc, form, limit)
+    draft.carry_out(alloc, gates, form, limit)
 }

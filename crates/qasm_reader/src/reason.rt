@@ -30,9 +30,13 @@ pub enum Why {
     SizesDiffer,
     /// A gate on the same qubit twice.
     RepeatedQubit,
+    /// A definition that calls gates more than 32 deep.
+    TooDeep,
+    /// More than 4,000,000 items in the calls of defined gates.
+    TooManyItems,
     /// The angle is no exact fraction of π.
     AngleRefused(AngleRefusal),
-    /// The angle isn't a multiple of π/2.
+    /// The angle isn't on the grid of its gate.
     OffGrid,
     /// A gate on a qubit that was measured.
     Measured,

@@ -2,9 +2,9 @@
 ghost use Rattle.std.specs.Prelude.{◌≡◌, ◌<◌, ◌≤◌, ◌+◌, ◌∷◌, [], map, false};
 ghost use Rattle.std.specs.List.{list_any};
 ghost use Rattle.qasm_gates.specs.Gates.{up_to};
-ghost use Rattle.qasm_reader.specs.Acts.{qubit_at, qubits_at, wholes, place_count, is_among};
+ghost use Rattle.qasm_reader.specs.Acts.{qubit_at, qubits_at, place_count, is_among};
 ghost use Rattle.qasm_reader.specs.Private.Seen.{seen_target, seen_targets};
-ghost use Rattle.qasm_reader.specs.Private.Scope.{other_than, differ, has_twice, repeats, flagged, touches};
+ghost use Rattle.qasm_reader.specs.Private.Scope.{has_twice, repeats, flagged, touches};
 
 use crate::registers::Target;
 
@@ -58,39 +58,6 @@ pub fn places(targets: &[Target]) -> u32
         }
     }
     1
-}
-
-/// Whether a whole register has another size.
-fn has_other_size(targets: &[Target], size: u32) -> bool
-    ensures { result ≡ list_any (other_than size) (wholes (seen_targets targets.now)) }
-{
-    let mut rest = targets;
-    while let Some((target, after)) = rest.split_first() {
-        match target.index {
-            None => {
-                if target.register.size != size {
-                    return true;
-                }
-                rest = after;
-            }
-            Some(_) => rest = after,
-        }
-    }
-    false
-}
-
-/// Whether two whole registers among them differ in size.
-pub fn sizes_differ(targets: &[Target]) -> bool
-    ensures { result ≡ differ (wholes (seen_targets targets.now)) }
-{
-    let mut rest = targets;
-    while let Some((target, after)) = rest.split_first() {
-        match target.index {
-            None => return has_other_size(after, target.register.size),
-            Some(_) => rest = after,
-        }
-    }
-    false
 }
 
 /// Whether one of the repeated calls has a qubit twice.

@@ -1,5 +1,5 @@
-use Rattle.std.proofs.Common.{◌≡◌, ◌∙◌, ◌+◌, sym, ap, arith, min, Some, length}
-use Rattle.qasm_reader.specs.Private.Scope.{Found, seen_found}
+use Rattle.std.proofs.Common.{◌≡◌, ◌∙◌, ◌+◌, sym, ap, arith, min, length}
+use Rattle.qasm_reader.specs.Private.Scope.{Found, seen_found, many}
 use Rattle.qasm_reader.proofs.Looking.{nothing_found, look, look_unknown, look_beyond, look_count, all_targets}
 use Rattle.qasm_reader.proofs.calls.look_up.Goals as goal
 
@@ -17,9 +17,9 @@ returns-clause-beyond c u =
 pub returns-clause-count : goal.returns-clause-count
 returns-clause-count c =
     let none : 0 + length c.args.arguments ≡ length c.args.arguments = omega arith in
-    ap (λ (f : Found). f.count) (noted c) ∙ look_count c.args.registers.now nothing_found c.args.arguments (omega arith) ∙ ap (λ n. min n 12) none
+    ap (λ (f : Found). f.count) (noted c) ∙ look_count c.args.registers.now nothing_found c.args.arguments (omega arith) ∙ ap (λ n. min n many) none
 
 pub returns-clause-means : goal.returns-clause-means
-returns-clause-means c u b h =
-    all_targets c.args.registers.now c.args.arguments (sym (returns-clause-unknown c) ∙ u) (sym (returns-clause-beyond c u) ∙ b) h
-    ∙ ap (λ (f : Found). Some f.targets) (sym (noted c))
+returns-clause-means c u b =
+    let r = all_targets c.args.registers.now c.args.arguments (sym (returns-clause-unknown c) ∙ u) (sym (returns-clause-beyond c u) ∙ b) in
+    (r.0, r.1, ap (λ (f : Found). f.targets) (noted c) ∙ r.2, ap (λ (f : Found). f.differ) (noted c) ∙ r.3)

@@ -1,91 +1,77 @@
-use Rattle.std.proofs.Common.{rules, ◌≡◌, ◌∙◌, ◌<◌, ◌≤◌, ◌++◌, sym, ap, subst, ℕ, List, length, take, drop, replicate, Some, Result, Ok, Err}
-use Rattle.gate_set.specs.declared.kind.Kind.{Kind}
-use Rattle.std.proofs.lemmas.List.{length-map}
-use Rattle.gate_set.specs.Shape.{IsPlaced}
-use Rattle.qasm_reader.specs.declared.reason.Why.{Why}
-use Rattle.qasm_reader.specs.declared.registers.Target.{Target}
-use Rattle.qasm_reader.specs.Acts.{qubits_at, place_count, product}
-use Rattle.qasm_gates.specs.Gates.{one as one_of}
+use Rattle.std.proofs.Common.{◌≡◌, ◌∙◌, sym, ap, subst, ◌<◌, ◌*◌, false, List, length, take}
+use Rattle.std.proofs.lemmas.Result.{IfOk-weaker}
+use Rattle.qasm_gates.specs.Private.Proper.{AreQubits}
+use Rattle.qasm_gates.specs.Private.Views.{callee_gate}
+use Rattle.qasm_reader.specs.Acts.{Target, wholes, place_count, qubits_at}
 use Rattle.qasm_reader.specs.Calls.{listed}
-use Rattle.qasm_gates.specs.Private.Seen.{seen_builtin}
-use Rattle.qasm_reader.specs.Private.Seen.{seen_target, seen_targets}
-use Rattle.qasm_reader.specs.Private.Scope.{Taken, Yields, bodies, outcome_on}
-use Rattle.qasm_reader.specs.Private.Drafts.{Draft, with_gates, bodied, gate_on}
-use Rattle.qasm_gates.proofs.Builtins.{named_few}
-use Rattle.qasm_reader.proofs.Calling.{Met, met, Looked, looked, miscounted, finished, comes_to, placed_call, enough_targets, one_listed}
+use Rattle.qasm_reader.specs.Private.Seen.{seen_targets}
+use Rattle.qasm_reader.specs.Private.Meanings.{meaning_of}
+use Rattle.qasm_reader.specs.Private.Scope.{differ, repeats, wrong_counts}
+use Rattle.qasm_reader.specs.Private.Drafts.{Draft, itemed}
+use Rattle.qasm_reader.proofs.Placing.{are_qubits}
+use Rattle.qasm_reader.proofs.Calling.{Met, met, repeating, going_on, repeats_are, all_first, right_arity, right_angles}
 use Rattle.qasm_reader.proofs.draft.Draft.call_gate.Goals as goal
-use Rattle.qasm_reader.proofs.draft.Draft.call_gate.Goals.{After-has_counts, After-outcome_on}
+use Rattle.qasm_reader.proofs.draft.Draft.call_gate.Goals.{After-repeats}
 
-pub has_counts-requires : goal.has_counts-requires
-has_counts-requires c = named_few c.requires.named.0 (seen_builtin c.args.gate) c.requires.named.1
+-- the targets of all arguments
+record Found (c : After-repeats) : Type 0 where
+  targets : List Target
+  met : Met c.args.self.now c.args.arguments targets
+  first : seen_targets c.look_up-found.result.targets.items ≡ take 64 targets
+  counts : wrong_counts (callee_gate c.args.known.now c.args.callee) (length c.args.arguments) (length (listed c.args.angles)) ≡ false
+  alike : differ (wholes targets) ≡ false
 
--- nothing misses
-found : (c : After-has_counts) → Met c.args.self.now (seen_builtin c.args.gate) (length (listed c.args.angles)) c.args.arguments c.has_counts.result
+found : (c : After-repeats) → Found c
 found c =
-    met c.args.self.now (seen_builtin c.args.gate) (named_few c.requires.named.0 (seen_builtin c.args.gate) c.requires.named.1) (length (listed c.args.angles)) c.args.arguments
-    c.self.inside.registers (ap (λ (x : Draft). x.registers) c.self.view_is) _ _ _ _ _
-    c.look_up-found.ensures.unknown c.look_up-found.ensures.beyond c.look_up-found.ensures.count c.first_angle-angle.ensures.count c.has_counts.ensures c.if-found.false c.if-found-2.false
+    let m = c.look_up-found.ensures.means c.if-found.false c.if-found-2.false in
+    record {
+      targets = m.0;
+      met =
+          met c.args.self.now c.args.arguments c.self.inside.registers (ap (λ (x : Draft). x.registers) c.self.view_is) _ _ c.look_up-found.ensures.unknown c.look_up-found.ensures.beyond
+          c.if-found.false c.if-found-2.false m.0 m.1;
+      first = m.2;
+      counts = sym (c.miscounts.ensures (length c.args.arguments) (length (listed c.args.angles)) c.look_up-found.ensures.count c.count_angles.ensures) ∙ c.if-miscounts.false;
+      alike = sym m.3 ∙ c.if-found-3.false;
+    }
 
--- and the counts are right
-counted : (c : After-outcome_on) → Met c.args.self.now (seen_builtin c.args.gate) (length (listed c.args.angles)) c.args.arguments c.has_counts.result
-    → Looked c.args.self.now (seen_builtin c.args.gate) (length (listed c.args.angles)) c.args.arguments (seen_targets c.look_up-found.result.targets.items)
-counted c m =
-    looked c.args.self.now (seen_builtin c.args.gate) (named_few c.requires.named.0 (seen_builtin c.args.gate) c.requires.named.1) (length (listed c.args.angles)) c.args.arguments
-    c.self.inside.registers (ap (λ (x : Draft). x.registers) c.self.view_is) (seen_targets c.look_up-found.result.targets.items) c.has_counts.result m c.if-not-has_counts.false
-    (c.look_up-found.ensures.means c.if-found.false c.if-found-2.false)
+-- the test of repeats is that of all of them
+repeats_is : (c : After-repeats) (f : Found c) → c.repeats.result ≡ repeats f.targets
+repeats_is c f =
+    c.repeats.ensures ∙ repeats_are c.args.self.now c.requires.draft c.args.arguments f.targets f.met f.alike c.look_up-found.result.count c.look_up-found.ensures.count (seen_targets c.look_up-found.result.targets.items) f.first
 
--- what comes of the call on its targets
-abbrev outcome_here : After-outcome_on → Result (Kind × ℕ) Why
-outcome_here c = outcome_on c.body_of-body.result (seen_targets c.look_up-found.result.targets.items) c.args.self.now.measured (length c.args.self.now.gates)
+same_targets : (c : After-repeats) (f : Found c) → c.repeats.result ≡ false → seen_targets c.look_up-found.result.targets.items ≡ f.targets
+same_targets c f h =
+    all_first c.args.self.now c.args.arguments f.targets f.met c.look_up-found.result.count c.look_up-found.ensures.count (seen_targets c.look_up-found.result.targets.items) f.first (sym c.repeats.ensures ∙ h)
 
-comes : (c : After-outcome_on) (t : Taken) (r : Result (Kind × ℕ) Why) → Looked c.args.self.now (seen_builtin c.args.gate) (length (listed c.args.angles)) c.args.arguments (seen_targets c.look_up-found.result.targets.items)
-    → Yields (Some (seen_builtin c.args.gate)) (listed c.args.angles) t → outcome_here c ≡ r
-    → finished c.args.gate.controls c.args.self.now (seen_targets c.look_up-found.result.targets.items) r ≡ gate_on c.args.self.now (seen_builtin c.args.gate) (length (listed c.args.angles)) t c.args.arguments
-comes c t r l y e =
+pub returns-then-repeats : goal.returns-then-repeats
+returns-then-repeats c =
+    let a = (goal.at.returns-then-repeats c).After-repeats in let f = found a in
+    repeating c.args.self.now (callee_gate c.args.known.now c.args.callee) (listed c.args.angles) c.args.arguments f.targets f.met f.counts f.alike (sym (repeats_is a f) ∙ c.if-repeats.true)
+
+pub call_on-requires-clause-counted : goal.call_on-requires-clause-counted
+call_on-requires-clause-counted c =
+    let f = found (goal.at.call_on-requires-clause-counted c).After-repeats in
+    right_angles (callee_gate c.args.known.now c.args.callee) (length c.args.arguments) (length (listed c.args.angles)) f.counts
+
+pub call_on-requires-clause-placed : goal.call_on-requires-clause-placed
+call_on-requires-clause-placed c place h =
+    let a = (goal.at.call_on-requires-clause-placed c).After-repeats in
+    let f = found a in
+    let gate = callee_gate c.args.known.now c.args.callee in
+    let same : seen_targets c.as_slice.result.now ≡ f.targets = ap seen_targets c.as_slice.ensures.value ∙ same_targets a f c.if-repeats.false in
+    subst (λ ts. AreQubits gate.arity (qubits_at ts place)) (sym same)
+    (are_qubits c.args.self.now c.requires.draft c.args.arguments f.targets f.met.known f.met.within f.met.are f.alike gate.arity (right_arity gate (length c.args.arguments) (length (listed c.args.angles)) f.counts)
+    (sym (repeats_is a f) ∙ c.if-repeats.false) place (subst (λ ts. place < place_count ts) same h))
+
+pub returns : goal.returns
+returns c =
+    let a = (goal.at.returns c).After-repeats in
+    let f = found a in
     let d = c.args.self.now in
-    let called = seen_builtin c.args.gate in
+    let gate = callee_gate c.args.known.now c.args.callee in
     let angles = listed c.args.angles in
-    let ts = seen_targets c.look_up-found.result.targets.items in
-    let one = one_listed called angles c.first_angle-angle.result.0 c.first_angle-angle.ensures.first l.counts.angles in
-    let body : bodies called.controls c.body_of-body.result ≡ bodied t = c.body_of-body.ensures.yields t (subst (λ a. Yields (Some called) a t) (sym one) y) (ap length one ∙ l.counts.angles) in
-    sym (ap (finished called.controls d ts) e) ∙ comes_to d called (length angles) t c.args.arguments ts c.body_of-body.result l body
-
-pub returns-then-not-has_counts : goal.returns-then-not-has_counts
-returns-then-not-has_counts c t y =
-    miscounted c.args.self.now (seen_builtin c.args.gate) (length (listed c.args.angles)) c.args.arguments c.has_counts.result t (found (goal.at.returns-then-not-has_counts c).After-has_counts) c.if-not-has_counts.true
-
-pub apply-requires-clause-few : goal.apply-requires-clause-few
-apply-requires-clause-few c =
-    let at = goal.at.apply-requires-clause-few c in
-    let l = counted at.After-outcome_on (found at.After-has_counts) in
-    let ts = c.look_up-found.result.targets.items in
-    subst (λ (ts : List Target). c.args.gate.controls ≤ length ts) (sym c.as_slice-in-Ok.ensures.value)
-    (subst (λ n. c.args.gate.controls ≤ n) (length-map ts seen_target) (enough_targets c.args.self.now (seen_builtin c.args.gate) (length (listed c.args.angles)) c.args.arguments (seen_targets ts) l))
-
-pub apply-requires-clause-placed : goal.apply-requires-clause-placed
-apply-requires-clause-placed c place h =
-    let at = goal.at.apply-requires-clause-placed c in
-    let d = c.args.self.now in
-    let called = seen_builtin c.args.gate in
-    let passed : outcome_here at.After-outcome_on ≡ Ok (c.in-Ok.kind, c.in-Ok.times) = search rules in
-    let same : c.as_slice-in-Ok.result.now ≡ c.look_up-found.result.targets.items = c.as_slice-in-Ok.ensures.value in
-    subst (λ l. IsPlaced c.in-Ok.kind (take called.controls (qubits_at (seen_targets l) place)) (drop called.controls (qubits_at (seen_targets l) place))) (sym same)
-    (placed_call d c.requires.draft called (named_few c.requires.named.0 called c.requires.named.1) (length (listed c.args.angles)) c.args.arguments (seen_targets c.look_up-found.result.targets.items) c.body_of-body.result
-    d.measured (length d.gates) (c.in-Ok.kind, c.in-Ok.times) (counted at.After-outcome_on (found at.After-has_counts)) (c.body_of-body.ensures.arity c.requires.named.0 c.requires.named.1)
-    (c.body_of-body.ensures.power c.requires.named.0 c.requires.named.1) passed place (subst (λ l. place < place_count (seen_targets l)) same h))
-
-pub returns-in-Err : goal.returns-in-Err
-returns-in-Err c t y =
-    let at = goal.at.returns-in-Err c in
-    let passed : outcome_here at.After-outcome_on ≡ Err c.in-Err.why = search rules in
-    comes at.After-outcome_on t (Err c.in-Err.why) (counted at.After-outcome_on (found at.After-has_counts)) y passed
-
-pub returns-in_ok-apply-in-Ok : goal.returns-in_ok-apply-in-Ok
-returns-in_ok-apply-in-Ok c t y =
-    let at = goal.at.returns-in_ok-apply-in-Ok c in
-    let passed : outcome_here at.After-outcome_on ≡ Ok (c.in-Ok.kind, c.in-Ok.times) = search rules in
-    let more = product (replicate c.in-Ok.times (one_of c.args.gate.controls c.in-Ok.kind)) (seen_targets c.look_up-found.result.targets.items) in
-    let gates : c.apply.new.gates.items ≡ c.self.inside.gates.items ++ more = search rules in
-    ap (λ g. Ok (record { registers = c.self.inside.registers; qubits = c.self.inside.qubits; gates = g; measured = c.self.inside.measured.items })) gates
-    ∙ ap (λ (x : Draft). Ok (with_gates x more)) c.self.view_is
-    ∙ comes at.After-outcome_on t (Ok (c.in-Ok.kind, c.in-Ok.times)) (counted at.After-outcome_on (found at.After-has_counts)) y passed
+    let same : seen_targets c.as_slice.result.now ≡ f.targets = ap seen_targets c.as_slice.ensures.value ∙ same_targets a f c.if-repeats.false in
+    IfOk-weaker c.call_on.result _ _
+    (λ why h. h ∙ ap (λ ts. itemed d (gate.items * place_count ts) (meaning_of gate angles) ts) same
+    ∙ going_on d gate angles c.args.arguments f.targets f.met f.counts f.alike (sym (repeats_is a f) ∙ c.if-repeats.false))
+    c.call_on.ensures
