@@ -251,7 +251,7 @@ class QubitsDiffer(SliqError):
 
 
 class Limit(SliqError):
-    """A limit was met: `step` is the gate or step at which, or None where the probabilities were too wide. For nodes `held` and `order` are told too."""
+    """A limit was met: `step` is the gate or step at which, or None where probabilities, samples or a fidelity were too wide. For nodes `held` and `order` are told too."""
 
     def __init__(self, status, told, step=None, held=None, order=None):
         super().__init__(status, told)
@@ -272,7 +272,7 @@ def _error(status, told):
     found = re.fullmatch(r"sliq: node limit at step (\d+), held (\d+), order ([\d ]*)", line)
     if found:
         return Limit(status, line, int(found[1]), int(found[2]), [int(place) for place in found[3].split()])
-    if line == "sliq: weight too wide":
+    if line in ("sliq: weight too wide", "sliq: sample too wide", "sliq: fidelity too wide"):
         return Limit(status, line)
     return SliqError(status, line)
 
@@ -320,9 +320,18 @@ def probabilities(circuit, *, width=None, nodes=None, cache=None, reclaim=None, 
     return Outcomes(int(lines[0].split(" ")[1]), ((bits, Probability.read(number)) for bits, number in pairs))
 
 
-def equivalent(one, two, *, width=None, nodes=None, cache=None, reclaim=None, sift=None):
-    """Whether two circuits are the same up to a scalar: a Verdict."""
+def sample(circuit, shots, seed, *, width=None, nodes=None, cache=None, reclaim=None, sift=None):
+    """So many outcomes of the measured qubits, drawn by exact weights and the random words of the seed: a list of texts of bits. The same three give the same list everywhere."""
     options = dict(width=width, nodes=nodes, cache=cache, reclaim=reclaim, sift=sift)
+    if _is_file(circuit):
+        lines, _ = _run("sample", options, ["--", os.path.abspath(circuit), str(shots), str(seed)])
+    else:
+        lines, _ = _run("sample", options, ["-", str(shots), str(seed)], circuit)
+    return lines[:-1]
+
+
+def _run_on_two(command, options, one, two):
+    """The lines that a command writes on two circuits, and whether the status is 0."""
     with tempfile.TemporaryDirectory() as folder:
         files = []
         for number, circuit in enumerate((one, two), 1):
@@ -330,7 +339,18 @@ def equivalent(one, two, *, width=None, nodes=None, cache=None, reclaim=None, si
                 text, circuit = circuit, Path(folder, "%d.qasm" % number)
                 circuit.write_bytes(text.encode())
             files.append(os.path.abspath(circuit))
-        lines, same = _run("eq", options, ["--", *files])
+        return _run(command, options, ["--", *files])
+
+
+def fidelity(one, two, *, width=None, nodes=None, cache=None, reclaim=None, sift=None):
+    """|tr(U*V^-1)|^2 / 4^n for circuits U and V on n qubits, exactly: a Probability, which is 1 where they are the same up to a scalar."""
+    lines, _ = _run_on_two("fidelity", dict(width=width, nodes=nodes, cache=cache, reclaim=reclaim, sift=sift), one, two)
+    return Probability.read(lines[0].split(" ")[1])
+
+
+def equivalent(one, two, *, width=None, nodes=None, cache=None, reclaim=None, sift=None):
+    """Whether two circuits are the same up to a scalar: a Verdict."""
+    lines, same = _run_on_two("eq", dict(width=width, nodes=nodes, cache=cache, reclaim=reclaim, sift=sift), one, two)
     if same:
         return Verdict(scalar=Amplitude.read(lines[1].split(" ")[1]))
     _, row, _, column = lines[1].split(" ")

@@ -100,6 +100,22 @@ class Commands(unittest.TestCase):
         self.assertTrue(sliq.equivalent(TOP / "examples" / "toffoli.qasm", TOP / "examples" / "toffoli_gate.qasm"))
 
 
+    def test_sample(self):
+        # drawn apart from the program, by the weights (2+sqrt(2))/4 and ChaCha20's words
+        self.assertEqual("".join(sliq.sample(COIN, 8, 7)), "01000000")
+        self.assertEqual(sliq.sample(BELL, 6, 1), ["00", "11", "00", "00", "11", "00"])
+        self.assertEqual(sliq.sample(BELL, 0, 1), [])
+        self.assertEqual(sliq.sample("OPENQASM 2.0;", 2, 0), ["", ""])
+        self.assertEqual(sliq.sample(TOP / "examples" / "coin.qasm", 8, 7), sliq.sample(COIN, 8, 7))
+
+    def test_fidelity(self):
+        # |2 + sqrt(2)*(1 + i)|^2 / 8 is (2 + sqrt(2))/4
+        self.assertEqual(sliq.fidelity("OPENQASM 2.0; qreg q[1]; t q;", "OPENQASM 2.0; qreg q[1];"), Probability(2, 1, 2))
+        self.assertEqual(sliq.fidelity(BELL, BELL), 1)
+        self.assertEqual(sliq.fidelity("OPENQASM 2.0; qreg q[1]; x q;", "OPENQASM 2.0; qreg q[1];"), 0)
+        self.assertEqual(sliq.fidelity(TOP / "examples" / "toffoli.qasm", TOP / "examples" / "toffoli_gate.qasm"), 1)
+
+
 class Causes(unittest.TestCase):
     def test_refusals(self):
         with self.assertRaises(sliq.Refused) as caught:
@@ -131,6 +147,15 @@ class Causes(unittest.TestCase):
         with self.assertRaises(sliq.Limit) as caught:
             sliq.probabilities("OPENQASM 2.0; qreg q[1]; h q; " + "t q; h q; " * 250)
         self.assertIsNone(caught.exception.step)
+
+    def test_limits_of_samples_and_fidelity(self):
+        # 61 factors 1/sqrt(2) are left, so that the weights make 2^61
+        with self.assertRaises(sliq.Limit) as caught:
+            sliq.sample("OPENQASM 2.0; qreg q[1]; h q; " + "t q; h q; t q; h q; " * 59, 0, 0)
+        self.assertEqual((caught.exception.step, str(caught.exception)), (None, "sliq: sample too wide"))
+        with self.assertRaises(sliq.Limit) as caught:
+            sliq.fidelity("OPENQASM 2.0; qreg q[62];", "OPENQASM 2.0; qreg q[62];")
+        self.assertEqual((caught.exception.step, str(caught.exception)), (None, "sliq: fidelity too wide"))
 
     def test_other_causes(self):
         with self.assertRaises(sliq.SliqError) as caught:
