@@ -1,7 +1,8 @@
-"""Charts of what sliq writes, as text or as SVG: a bar for each probability of `prob`, a disc for each amplitude of `sim`.
+"""Charts of what sliq writes, as text or as SVG: a bar for each probability of `prob` or frequency of `sample`, a disc for each amplitude of `sim`.
 
     ./sliq prob FILE | python3 python/plot.py                 bars of text
     ./sliq prob FILE | python3 python/plot.py --svg > bars.svg
+    ./sliq sample FILE 1000 1 | python3 python/plot.py        bars of how many shots show each outcome
     ./sliq sim FILE | python3 python/plot.py                  sizes and phases, in text
     ./sliq sim FILE | python3 python/plot.py --svg > discs.svg
 
@@ -16,6 +17,7 @@ bar that would be shorter than half a mark is empty. This file needs sliq.py and
 import cmath
 import math
 import sys
+from collections import Counter
 
 import sliq
 
@@ -36,11 +38,15 @@ def _mark_count(size, largest, width):
     return int(width * size / largest + 0.5)
 
 
+def _number_text(number):
+    """A count as it is, any other number with four digits."""
+    return str(number) if isinstance(number, int) else "%.4g" % float(number)
+
+
 def bars(outcomes, width=WIDTH):
-    """Text with a line for each outcome: its bits, its probability with four digits, and a bar."""
-    sizes = {bits: float(number) for bits, number in outcomes.items()}
-    largest = max(sizes.values())
-    return _rows([(bits, "%.4g" % size, "#" * _mark_count(size, largest, width)) for bits, size in sizes.items()], "lll")
+    """Text with a line for each outcome: its bits, its probability with four digits or its count, and a bar."""
+    largest = max(map(float, outcomes.values()))
+    return _rows([(bits, _number_text(number), "#" * _mark_count(float(number), largest, width)) for bits, number in outcomes.items()], "lll")
 
 
 def phases(state, width=WIDTH):
@@ -72,17 +78,16 @@ def _text(x, y, words, anchor="start"):
 
 
 def bars_svg(outcomes, length=300):
-    """A bar chart as SVG: bars from left to right, the longest of them `length` long, each with its bits and its probability."""
-    sizes = {bits: float(number) for bits, number in outcomes.items()}
-    largest = max(sizes.values())
-    left = 16 + 8 * max(map(len, sizes))
+    """A bar chart as SVG: bars from left to right, the longest of them `length` long, each with its bits and its probability or count."""
+    largest = max(map(float, outcomes.values()))
+    left = 16 + 8 * max(map(len, outcomes))
     parts = []
-    for at, (bits, size) in enumerate(sizes.items()):
-        y, long = 8 + 20 * at, length * size / largest
+    for at, (bits, number) in enumerate(outcomes.items()):
+        y, long = 8 + 20 * at, length * float(number) / largest
         parts.append(_text(left - 8, y + 12, bits, "end"))
         parts.append('<rect x="%g" y="%g" width="%.2f" height="14" fill="steelblue"/>' % (left, y, long))
-        parts.append(_text(left + long + 6, y + 12, "%.4g" % size))
-    return _svg(left + length + 90, 16 + 20 * len(sizes), parts)
+        parts.append(_text(left + long + 6, y + 12, _number_text(number)))
+    return _svg(left + length + 90, 16 + 20 * len(outcomes), parts)
 
 
 def discs_svg(state, radius=24, columns=8):
@@ -107,7 +112,7 @@ def discs_svg(state, radius=24, columns=8):
 
 
 def read(text):
-    """What `sim` or `prob` wrote, as a State or as Outcomes of sliq.py."""
+    """What `sim` or `prob` wrote, as a State or as Outcomes of sliq.py; what `sample` wrote, as a dictionary from outcomes in lexicographic order to their counts."""
     lines = text.splitlines()
     word, _, number = lines[0].partition(" ") if lines else ("", "", "")
     pairs = [line.rsplit(" ", 1) for line in lines[1:-1]]
@@ -115,7 +120,10 @@ def read(text):
         return sliq.State(int(number), ((bits[1:-1], sliq.Amplitude.read(amplitude)) for bits, amplitude in pairs))
     if word == "measured":
         return sliq.Outcomes(int(number), ((bits, sliq.Probability.read(probability)) for bits, probability in pairs))
-    raise ValueError("neither what sim writes nor what prob writes")
+    if lines and lines[-1] == "shots %d" % (len(lines) - 1):
+        counts = Counter(lines[:-1])
+        return {bits: counts[bits] for bits in sorted(counts)}
+    raise ValueError("neither what sim nor what prob nor what sample writes")
 
 
 def main(words):
@@ -127,6 +135,8 @@ def main(words):
     except ValueError as error:
         print("plot: %s" % error, file=sys.stderr)
         return 1
+    if not found:
+        return 0
     if isinstance(found, sliq.State):
         sys.stdout.write(discs_svg(found) if words else phases(found))
     else:

@@ -32,6 +32,9 @@ class Texts(unittest.TestCase):
         small = Outcomes(1, {"0": Probability(2**60 - 1, 0, 60), "1": Probability(1, 0, 60)})
         self.assertEqual(plot.bars(small, width=4), "0  1          ####\n1  8.674e-19\n")
 
+    def test_counts(self):
+        self.assertEqual(plot.bars({"01": 20, "10": 5}, width=8), "01  20  ########\n10  5   ##\n")
+
     def test_phases(self):
         # sizes 1/sqrt(2), 1/2, 1/2, and phases 0, of -w and of -i
         wanted = "|00>  0.7071    0.0  ##########\n|10>  0.5     225.0  #######\n|11>  0.5     270.0  #######\n"
@@ -68,7 +71,9 @@ class Reading(unittest.TestCase):
         self.assertEqual(plot.read("measured 1\n0 (2,1)/2^2\n1 (2,-1)/2^2\noutcomes 2\n"), COIN)
         read = plot.read("qubits 2\n|00> (0,0,0,1)/sqrt2^1\n|10> (0,0,-1,0)/sqrt2^2\n|11> (0,-1,0,0)/sqrt2^2\nstates 3\n")
         self.assertEqual((read, read.qubits), (TURNED, 2))
-        for text in ("", "equivalent\nscalar (0,0,0,1)/sqrt2^0\n"):
+        self.assertEqual(plot.read("01\n10\n01\nshots 3\n"), {"01": 2, "10": 1})
+        self.assertEqual(plot.read("shots 0\n"), {})
+        for text in ("", "01\nshots 2\n", "equivalent\nscalar (0,0,0,1)/sqrt2^0\n"):
             with self.assertRaises(ValueError):
                 plot.read(text)
 
@@ -83,6 +88,7 @@ class Reading(unittest.TestCase):
         status, drawn = call(["--svg"], "measured 1\n1 (1,0)/2^0\noutcomes 1\n")
         self.assertEqual((status, xml.fromstring(drawn).tag), (0, SVG + "svg"))
         self.assertEqual(call([], "sliq: read fault\n"), (1, ""))
+        self.assertEqual(call([], "shots 0\n"), (0, ""))
         self.assertEqual(call(["--png"], "")[0], 2)
 
 
