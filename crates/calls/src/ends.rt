@@ -39,7 +39,7 @@ fn nodes() -> Cause {
 }
 
 /// Each reason.
-static REASONS: [Why; 20] = [
+static REASONS: [Why; 22] = [
     Why::BadByte(0),
     Why::NoVersion,
     Why::NotAStatement,
@@ -51,6 +51,8 @@ static REASONS: [Why; 20] = [
     Why::WrongCount,
     Why::SizesDiffer,
     Why::RepeatedQubit,
+    Why::TooDeep,
+    Why::TooManyItems,
     Why::AngleRefused(AngleRefusal::TooLong),
     Why::AngleRefused(AngleRefusal::Malformed),
     Why::AngleRefused(AngleRefusal::NotExact),
