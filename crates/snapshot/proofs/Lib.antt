@@ -2,5 +2,16 @@ pub mod Skipping
 pub mod Listing
 pub mod NumberingLemmas
 pub mod TextLemmas
+pub mod Once
 pub mod VisitingLemmas
 pub mod Whole
+pub mod NumberTexts
+pub mod Listed
+pub mod OrderLemmas
+pub mod SnapshotLines
+pub mod Below
+pub mod Fitting
+pub mod Shapes
+pub mod Rebuilding
+pub mod FourLemmas
+pub mod Judged

@@ -68,7 +68,7 @@ live_here d n p s is = inr (record { parts = p; is = is; below = has-here p.var 
 below_here : (d : Diagram) (n : ℕ) (p : Parts) → IsSound d → parts_of d.slots n ≡ Some p → IsBelow (length d.order) d.order p.var (function_of d n)
 below_here d n p s is u there = ignores_depends (length d.order) u (function_of d n) (ignores_higher d u p.var n s there (live_here d n p s is))
 
-reads_here : (d : Diagram) (n : ℕ) (p : Parts) → IsSound d → parts_of d.slots n ≡ Some p → depends (length d.order) p.var (function_of d n) ≡ true
+pub reads_here : (d : Diagram) (n : ℕ) (p : Parts) → IsSound d → parts_of d.slots n ≡ Some p → depends (length d.order) p.var (function_of d n) ≡ true
 reads_here d n p s is = node_depends d p.var n s (s.diagram.within n p is) (live_here d n p s is) (p, is, refl)
 
 fixed_here : (d : Diagram) (n : ℕ) (p : Parts) (b : Bool) → IsSound d → parts_of d.slots n ≡ Some p → fix p.var b (function_of d n) ≡ function_of d (child b p)

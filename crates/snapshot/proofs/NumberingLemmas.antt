@@ -91,10 +91,10 @@ place_left (x ∷ xs) ys m h =
           ∙ sym (cond-false (eqb x m) 0 (suc (place_in xs m)) (ne_eqb x m ne))
     ]
 
-lacks_head : (x n : ℕ) (xs : List ℕ) → has (x ∷ xs) n ≡ false → x ≢ n
+pub lacks_head : (x n : ℕ) (xs : List ℕ) → has (x ∷ xs) n ≡ false → x ≢ n
 lacks_head x n xs h e = false≢true (sym h ∙ has-here x xs n (sym e))
 
-lacks_tail : (x n : ℕ) (xs : List ℕ) → has (x ∷ xs) n ≡ false → has xs n ≡ false
+pub lacks_tail : (x n : ℕ) (xs : List ℕ) → has (x ∷ xs) n ≡ false → has xs n ≡ false
 lacks_tail x n xs h = false_from_ne_true (has xs n) (λ there. false≢true (sym h ∙ has-head x n xs there))
 
 place_last : (xs : List ℕ) (n : ℕ) → has xs n ≡ false → place_in (xs ++ n ∷ []) n ≡ length xs

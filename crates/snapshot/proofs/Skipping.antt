@@ -68,7 +68,7 @@ visited_skip k (u ∷ us) v f fs is below =
           ∙ ap (λ l. visited k (v ∷ l) f fs) (sym (after_there u us v ne))
     ]
 
-line_free : (k v : ℕ) (vs : List ℕ) (fs : List Function) (f : Function) → depends k v f ≡ false → line_of k (v ∷ vs) fs f ≡ line_of k vs fs f
+pub line_free : (k v : ℕ) (vs : List ℕ) (fs : List Function) (f : Function) → depends k v f ≡ false → line_of k (v ∷ vs) fs f ≡ line_of k vs fs f
 unfolding line_of
 line_free k v vs fs f free =
     cond-false (depends k v f) (record { var = v; low = number_in k fs (fix v false f); high = number_in k fs (fix v true f) }) (line_of k vs fs f) free

@@ -54,7 +54,7 @@ refuses_then a b p q TooLong e h = over_then a b p q e h
 refuses_then a b p q OutOfMemory e h = tt
 
 -- a stop that `?` hands on
-pub handed_on : {T : Type 0} (r : Result T SaveStop) (x : SaveStop) (Q : SaveStop → Type 0) → IsErrAnd r (λ y. y ≡ x) → Q x → IfErr r Q
+pub handed_on : {T E : Type 0} (r : Result T E) (x : E) (Q : E → Type 0) → IsErrAnd r (λ y. y ≡ x) → Q x → IfErr r Q
 handed_on (Ok n) x Q h q = tt
 handed_on (Err y) x Q h q = subst Q (sym h) q
 

@@ -1,5 +1,5 @@
 -- What a walk that numbers nodes keeps.
-use Rattle.std.proofs.Common.{◌≡◌, ℕ, ◌+◌, ◌<◌, Bool, true, false, List, [], ◌∷◌, ◌++◌, length, take, get_or, Some, None, inl, inr, sym, ◌∙◌, ap, subst, arith}
+use Rattle.std.proofs.Common.{◌≡◌, ℕ, ◌+◌, ◌<◌, Bool, true, false, List, [], ◌∷◌, ◌++◌, length, take, get_or, Some, None, inl, inr, refl, sym, ◌∙◌, ap, subst, arith}
 use Rattle.std.proofs.lemmas.Bool.{cases_lt, false≢true, false_from_ne_true}
 use Rattle.std.proofs.lemmas.List.{take_more, map-append}
 use Rattle.bit_lists.specs.Orders.{has}
@@ -11,16 +11,18 @@ use Rattle.diagram_model.proofs.Values.{none_some}
 use Rattle.slice_vec.specs.Slices.{StandsIn, bit_node}
 use Rattle.slice_vec.proofs.Bits.{bit_live}
 use Rattle.snapshot.specs.Numbers.{visited, visited_all, numbered, never, always}
-use Rattle.snapshot.specs.Private.{Numbered, IsNumbering, Keeps, AddsLower, functions}
+use Rattle.snapshot.specs.Private.{Numbered, AreOnce, IsNumbering, Keeps, AddsLower, functions}
 use Rattle.snapshot.proofs.NumberingLemmas.{two_lack, has_left, has_cases, has_small}
+use Rattle.snapshot.proofs.Once.{once_more}
 use Rattle.snapshot.proofs.Listing.{visited_all_append, visited_one, never_is, always_is}
 
 -- n gets a number once its children have one
-pub numbered_more : (d : Diagram) (s t : Numbered) (n : ℕ) (p : Parts) → IsNumbering d s → IsLive d n → parts_of d.slots n ≡ Some p → has s.nodes p.low ≡ true → has s.nodes p.high ≡ true
+pub numbered_more : (d : Diagram) (s t : Numbered) (n : ℕ) (p : Parts) → IsNumbering d s → has s.nodes n ≡ false → IsLive d n → parts_of d.slots n ≡ Some p → has s.nodes p.low ≡ true → has s.nodes p.high ≡ true
     → t.nodes ≡ s.nodes ++ n ∷ [] → t.past ≡ s.past → IsNumbering d t
-numbered_more d s t n p h live is low high nodes past = record {
+numbered_more d s t n p h new live is low high nodes past = record {
   sound = h.sound;
   constants = λ m lt. ap (λ l. has l m) nodes ∙ has_left s.nodes (n ∷ []) m (h.constants m lt);
+  once = subst AreOnce (sym nodes) (once_more s.nodes n h.once new);
   live = λ m there. elim (has_cases s.nodes n m (ap (λ l. has l m) (sym nodes) ∙ there)) [
     | inl old ↦ h.live m old
     | inr at ↦ subst (IsLive d) at live
@@ -80,11 +82,16 @@ two_small n h =
       | inr le ↦ absurd (false≢true (sym (two_lack n le) ∙ h))
     ]
 
+constants_once : AreOnce (0 ∷ 1 ∷ [])
+unfolding AreOnce has
+constants_once = (refl, (refl, tt))
+
 -- the constants alone
 pub numbered_none : (d : Diagram) (s : Numbered) → IsSound d → s.nodes ≡ 0 ∷ 1 ∷ [] → ((n : ℕ) → HasParts d n → n < s.past) → IsNumbering d s
 numbered_none d s sound nodes past = record {
   sound = sound;
   constants = λ n lt. ap (λ l. has l n) nodes ∙ has_small [] n lt;
+  once = subst AreOnce (sym nodes) constants_once;
   live = λ n there. inl (two_small n (ap (λ l. has l n) (sym nodes) ∙ there));
   closed = λ n p b there at. absurd (none_some p (sym (sound.diagram.ground n (two_small n (ap (λ l. has l n) (sym nodes) ∙ there))) ∙ at));
   places = past;

@@ -1,11 +1,11 @@
 -- The whole text of a vector in a store.
-use Rattle.std.proofs.Common.{◌≡◌, ℕ, ◌<◌, List, ◌++◌, map, flat_map, drop, length, refl, sym, ◌∙◌, ap, subst, arith}
+use Rattle.std.proofs.Common.{◌≤◌, ◌≡◌, ℕ, ◌<◌, List, ◌++◌, map, flat_map, drop, length, refl, sym, ◌∙◌, ap, subst, arith}
 use Rattle.std.specs.List.{range_with_len}
 use Rattle.std.proofs.lemmas.List.{ext_get_or, get_or-map, get_or_default, length-map, map-append, drop-map}
 use Rattle.std.proofs.lemmas.List.FromFn.{length-map-range_with_len, get_or-map-range_with_len}
 use Rattle.bit_lists.proofs.Variables.{some_at}
 use Rattle.diagram_model.specs.Functions.{Function}
-use Rattle.diagram_model.specs.Stores.{Diagram, IsLive, IsSound, function_of}
+use Rattle.diagram_model.specs.Stores.{held, Diagram, IsLive, IsSound, function_of}
 use Rattle.slice_vec.specs.Slices.{StandsIn, sign_node, digits_of}
 use Rattle.slice_quad.specs.declared.coord.Coord.{Coord}
 use Rattle.slice_quad.specs.declared.coord.Coord.TheVariants.{A, B, C, D}
@@ -15,8 +15,9 @@ use Rattle.slice_quad.specs.Vectors.{Stands}
 use Rattle.slice_quad.proofs.StepCalls.{digits_vector, whole_of}
 use Rattle.snapshot.specs.Numbers.{numbered, number_in, line_of, never}
 use Rattle.snapshot.specs.Sheets.{node_text, head_text, bits_text, sheet_text}
-use Rattle.snapshot.specs.Snapshots.{Snapshot, bits_in, all_bits, functions_in, snapshot_of, snapshot_text}
-use Rattle.snapshot.specs.Private.{functions, lines_text, places_in}
+use Rattle.snapshot.specs.Snapshots.{Snapshot, bits_in, all_bits, functions_in, nodes_in, snapshot_of, snapshot_text}
+use Rattle.snapshot.specs.Private.{Numbered, IsNumbering, functions, lines_text, places_in}
+use Rattle.snapshot.proofs.Once.{numbered_few}
 use Rattle.snapshot.proofs.Listing.{AreLive, numbers_are, lines_are}
 use Rattle.snapshot.proofs.NumberingLemmas.{has_end}
 
@@ -37,7 +38,7 @@ unfolding digits_in
 bits_are d q z h =
     ap (λ b. map (b z) (range_with_len 0 (length q.four.a))) (digits_vector d (length q.four.a) q.four h) ∙ digits_range d (nodes_of q.four z) (length q.four.a) (h.width z)
 
-all_bits_are : (d : Diagram) (q : SliceQuad) → AreIntegers d (length q.four.a) q.four → all_bits (snapshot_of d q) ≡ functions d (q.four.a ++ q.four.b ++ q.four.c ++ q.four.d)
+pub all_bits_are : (d : Diagram) (q : SliceQuad) → AreIntegers d (length q.four.a) q.four → all_bits (snapshot_of d q) ≡ functions d (q.four.a ++ q.four.b ++ q.four.c ++ q.four.d)
 all_bits_are d q h =
     let s = snapshot_of d q in
     ap (λ l. l ++ bits_in s B ++ bits_in s C ++ bits_in s D) (bits_are d q A h)
@@ -101,3 +102,12 @@ whole_text d q ns order width count s stands live e eo ew ec =
     ∙ ap (λ w. head_text d.order q.exponent w count ++ lines_text d ns (drop 2 ns) ++ rest) ew
     ∙ ap (λ n. head_text d.order q.exponent (length q.four.a) n ++ lines_text d ns (drop 2 ns) ++ rest) ec
     ∙ sym (text_is (snapshot_of d q) ∙ ap (text_with (snapshot_of d q)) (functions_are d q ns h e) ∙ made d q ns s live h)
+
+-- a snapshot has no more nodes than are held
+pub nodes_few : (d : Diagram) (q : SliceQuad) (s : Numbered) → Stands d q → IsNumbering d s → functions d s.nodes ≡ numbered (length d.order) d.order (functions d (q.four.a ++ q.four.b ++ q.four.c ++ q.four.d)) → nodes_in (snapshot_of d q) ≤ held d
+nodes_few d q s stands h e =
+    let w = whole_of d q stands q.width_b q.width_c q.width_d in
+    let is : functions_in (snapshot_of d q) ≡ functions d s.nodes = functions_are d q s.nodes w e in
+    let long : nodes_in (snapshot_of d q) ≡ length (drop 2 s.nodes) = ap (λ l. length (drop 2 l)) is ∙ ap length (drop-map (function_of d) 2 s.nodes) ∙ length-map (drop 2 s.nodes) (function_of d) in
+    let few = numbered_few d s h in
+    omega (arith, long, few)

@@ -1,5 +1,5 @@
 -- Words that only the clauses of private functions cite.
-use Rattle.std.specs.Prelude.{◌≡◌, ◌⊎◌, ℕ, ◌+◌, ◌<◌, ◌≤◌, Bool, true, cond, List, ◌∷◌, ◌++◌, length, map, flat_map, slice_index_or, Option, Some, None}
+use Rattle.std.specs.Prelude.{◌≡◌, ◌⊎◌, ℕ, ◌+◌, ◌<◌, ◌≤◌, Bool, true, false, cond, List, [], ◌∷◌, ◌++◌, length, map, flat_map, slice_index_or, Option, Some, None}
 use Rattle.bit_lists.specs.Orders.{has, place_in}
 use Rattle.diagram_model.specs.declared.parts.Parts.{Parts}
 use Rattle.diagram_model.specs.Functions.{Function}
@@ -28,10 +28,16 @@ AreNumbers ns ks = (n : ℕ) → 2 ≤ n → slice_index_or ks n 0 ≡ number_or
 abbrev pub functions : Diagram → List ℕ → List Function
 functions d ns = map (function_of d) ns
 
--- the store is sound, the constants are there, the nodes are live, with a node its children are among them, and there is a place for the number of each held node
+-- each number stands once
+unfoldable pub AreOnce : List ℕ → Type 0
+AreOnce [] = Unit {0}
+AreOnce (n ∷ ns) = (has ns n ≡ false) × AreOnce ns
+
+-- the store is sound, the constants are there, each number stands once, the nodes are live, with a node its children are among them, and there is a place for the number of each held node
 pub record IsNumbering (d : Diagram) (s : Numbered) : Type 0 where
   pub sound : IsSound d
   pub constants : (n : ℕ) → n < 2 → has s.nodes n ≡ true
+  pub once : AreOnce s.nodes
   pub live : (n : ℕ) → has s.nodes n ≡ true → IsLive d n
   pub closed : (n : ℕ) (p : Parts) (b : Bool) → has s.nodes n ≡ true → parts_of d.slots n ≡ Some p → has s.nodes (child b p) ≡ true
   pub places : (n : ℕ) → HasParts d n → n < s.past

@@ -1,13 +1,14 @@
 //! A vector's text.
 ghost use Rattle.std.specs.Prelude.{◌≡◌, ◌<◌, ◌≤◌, ◌++◌, ◌+◌, ℕ, length, drop, true, codes, decimal, [], IfOk, IfErr, OnOk, IsErrOf};
 ghost use Rattle.bit_lists.specs.Orders.{has};
+ghost use Rattle.diagram_model.specs.Stores.{held};
 ghost use Rattle.slice_vec.specs.Slices.{bit_node};
 ghost use Rattle.slice_quad.specs.declared.coord.Coord.{Coord};
 ghost use Rattle.slice_quad.specs.Fours.{nodes_of};
 ghost use Rattle.slice_quad.specs.Vectors.{Stands};
 ghost use Rattle.snapshot.specs.Numbers.{numbered};
 ghost use Rattle.snapshot.specs.Sheets.{list_text, node_text, head_text, bits_line, bits_text};
-ghost use Rattle.snapshot.specs.Snapshots.{IsSnapshot, snapshot_of, snapshot_text};
+ghost use Rattle.snapshot.specs.Snapshots.{IsSnapshot, nodes_in, snapshot_of, snapshot_text};
 ghost use Rattle.snapshot.specs.Private.{IsNumbering, Adds, Refuses, functions, line_in, lines_text, places_in};
 
 use crate::numbering::Numbering;
@@ -50,6 +51,7 @@ pub fn save_within(
     ensures text { IfOk result (λ t. t.items ≡ snapshot_text (snapshot_of d.now.store q.now)) }
     ensures short { IfOk result (λ t. length t.items ≤ most) }
     ensures long { IsErrOf result SaveStop.TooLong → most < length (snapshot_text (snapshot_of d.now.store q.now)) }
+    ensures held { OnOk result (nodes_in (snapshot_of d.now.store q.now) ≤ held d.now.store) }
 {
     let store = d.store();
     let seen = number_all(alloc, store, &q.four)?;

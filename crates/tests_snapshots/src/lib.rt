@@ -2,6 +2,8 @@
 #![tactic(auto)]
 
 #[cfg(test)]
+mod loading_tests;
+#[cfg(test)]
 mod saving_tests;
 #[cfg(test)]
 mod tools;

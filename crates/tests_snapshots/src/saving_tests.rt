@@ -10,16 +10,16 @@ use snapshot::{SaveStop, save_within};
 use std::alloc::Global;
 use std::process::Abort;
 
-const NO_QUBITS: &[u8] =
+pub const NO_QUBITS: &[u8] =
     b"SLIQSTATE 1\nqubits 0\norder\nexponent 0\nwidth 2\nnodes 0\na 0 0\nb 0 0\nc 0 0\nd 1 0\nend\n";
 
-const BELL: &[u8] =
+pub const BELL: &[u8] =
     b"SLIQSTATE 1\nqubits 2\norder 0 1\nexponent 1\nwidth 2\nnodes 3\n1 1 0\n1 0 1\n0 2 3\na 0 0\nb 0 0\nc 0 0\nd 4 0\nend\n";
 
-const SINGLET: &[u8] =
+pub const SINGLET: &[u8] =
     b"SLIQSTATE 1\nqubits 2\norder 0 1\nexponent 1\nwidth 2\nnodes 4\n1 1 0\n1 0 1\n0 2 3\n0 0 3\na 0 0\nb 0 0\nc 0 0\nd 4 5\nend\n";
 
-const WIDE: &[u8] =
+pub const WIDE: &[u8] =
     b"SLIQSTATE 1\nqubits 1\norder 0\nexponent 4\nwidth 3\nnodes 2\n0 1 0\n0 0 1\na 1 2 2\nb 1 3 3\nc 0 1 0\nd 0 3 0\nend\n";
 
 /// The text is the wanted one, and isn't told where one byte less is allowed.

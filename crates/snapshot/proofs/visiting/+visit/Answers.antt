@@ -47,7 +47,11 @@ returns-clause-kept t c =
     let d = c.args.store.now in
     let p = c.in-Some.parts in
     let high = c.in_ok-visit-2.ensures in
-    numbered_more d c.visit-2.new.seen c.push.new.self c.args.n.0 p high.kept c.requires.live (sym c.parts_of.ensures.parts ∙ c.in-Some.is) (high.keeps p.low c.in_ok-visit.ensures.there) high.there c.in_ok-push.ensures.nodes c.in_ok-push.ensures.past
+    let is = sym c.in-Some.is ∙ c.parts_of.ensures.parts in
+    let one = steps_down d c.args.n.0 p false c.requires.kept.sound is in
+    let two = steps_down d c.args.n.0 p true c.requires.kept.sound is in
+    let new = still_new d c.args.seen.now.nodes c.visit.new.seen.nodes c.visit-2.new.seen.nodes c.args.n.0 p one.less two.less c.in_ok-visit.ensures.lower high.lower (sym c.if-has.ensures) in
+    numbered_more d c.visit-2.new.seen c.push.new.self c.args.n.0 p high.kept new c.requires.live (sym c.parts_of.ensures.parts ∙ c.in-Some.is) (high.keeps p.low c.in_ok-visit.ensures.there) high.there c.in_ok-push.ensures.nodes c.in_ok-push.ensures.past
 
 pub returns-clause-there : goal.returns-clause-there
 returns-clause-there t c = ap (λ l. has l c.args.n.0) c.in_ok-push.ensures.nodes ∙ has_last c.visit-2.new.seen.nodes c.args.n.0
