@@ -1,8 +1,7 @@
 //! Texts and their circuits, and the texts and circuits of `demo`.
 ghost use Rattle.std.specs.Prelude.{◌≤◌};
 
-use crate::page::Page;
-use crate::row::Row;
+use call_rows::{Page, Row};
 use demo_reads::demo_circuit;
 use demo_text::generated;
 use gate_set::{Circuit, Gate};

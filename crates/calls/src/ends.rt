@@ -1,8 +1,7 @@
 //! How runs end: their exit status and their lines on err.
-use crate::page::Page;
-use crate::row::Row;
 use crate::sinks::sink_of;
 use bit_lists::Order;
+use call_rows::{Page, Row};
 use causes::{Cause, end};
 use qasm_lex::AngleRefusal;
 use qasm_reader::{Refusal, Why};

@@ -3,9 +3,8 @@ ghost use Rattle.std.specs.Prelude.{◌≡◌, ◌≤◌, ◌^◌, true};
 ghost use Rattle.gate_set.specs.Matrix.{IsKind};
 
 use crate::circuits::tell_gates;
-use crate::page::Page;
-use crate::row::Row;
 use bit_lists::OutOfMemory;
+use call_rows::{Page, Row};
 use gate_set::{Circuit, Entry, Gate, Kind};
 use std::alloc::Global;
 

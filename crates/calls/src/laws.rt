@@ -1,6 +1,6 @@
 //! Laws that stand on calls which do nothing.
-use crate::page::Page;
 use bit_lists::{lists_by_place, order_by_place};
+use call_rows::Page;
 use gate_set::{inverse_is_adjoint, matrix_is_unitary};
 use probabilities::states_by_outcome;
 use qasm_reader::{every_text_reads, one_reading, texts_read_as_circuits};

@@ -2,8 +2,7 @@
 ghost use Rattle.std.specs.Prelude.{◌≤◌, length, All};
 ghost use Rattle.qasm_lex.specs.Lexemes.{IsWithin};
 
-use crate::page::Page;
-use crate::row::Row;
+use call_rows::{Page, Row};
 use qasm_lex::{PiFraction, Token, angle, eighth, quarter, tokens};
 
 /// The tokens of a text, or the place of the first bad byte behind those before it.

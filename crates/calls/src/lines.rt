@@ -1,9 +1,8 @@
 //! The texts that a run writes.
-use crate::page::Page;
-use crate::row::Row;
 use amp_printer::{
     Counted, ListingLine, Verdict, count_line, entry_text, state_line, verdict_text, weight_line,
 };
+use call_rows::{Page, Row};
 
 pub fn tell(row: &mut Row<'_>, page: &mut Page) {
     match row.name() {

@@ -1,7 +1,6 @@
 //! Lists of bits, partial lists and orders.
-use crate::page::Page;
-use crate::row::Row;
 use bit_lists::{Bits, Order, Partial, bit_of, with_bit};
+use call_rows::{Page, Row};
 
 pub fn tell(row: &mut Row<'_>, page: &mut Page) {
     match row.name() {

@@ -12,17 +12,14 @@ mod lines;
 mod lists;
 mod matrices;
 mod outcomes;
-mod page;
 mod ring;
-mod row;
 mod shelves;
 mod sinks;
 mod vectors;
 mod words;
 
+use call_rows::{Page, Row};
 use outside::{FileShelf, Shelf, Sink, StreamSink, read_all, write_all};
-use page::Page;
-use row::Row;
 use std::alloc::Global;
 use std::process::ExitCode;
 use std::str;

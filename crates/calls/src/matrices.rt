@@ -1,9 +1,8 @@
 //! The comparison of circuits by all entries.
 ghost use Rattle.std.specs.Prelude.{◌≤◌};
 
-use crate::page::Page;
-use crate::row::Row;
 use amp_printer::Verdict;
+use call_rows::{Page, Row};
 use dense_matrix::compare;
 use gate_set::Circuit;
 use qasm_reader::{ReadStop, read};

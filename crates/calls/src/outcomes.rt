@@ -1,8 +1,7 @@
 //! Outcomes of a measurement, and sums of weights.
 ghost use Rattle.std.specs.Prelude.{◌≤◌, length};
 
-use crate::page::Page;
-use crate::row::Row;
+use call_rows::{Page, Row};
 use probabilities::{counted, fixed_to, measured_count, plus};
 use ring_omega::Weight;
 

@@ -1,6 +1,5 @@
 //! Exact numbers, their lowest forms and their weights.
-use crate::page::Page;
-use crate::row::Row;
+use call_rows::{Page, Row};
 use ring_omega::{Quad, lowest, lowest_weight};
 
 pub fn tell(row: &mut Row<'_>, page: &mut Page) {

@@ -1,7 +1,6 @@
 //! Texts of shelves, read whole.
-use crate::page::Page;
-use crate::row::Row;
 use bit_lists::OutOfMemory;
+use call_rows::{Page, Row};
 use outside::{CalmShelf, MemoryShelf, Named, Shelf, TakeStop, read_all};
 use std::alloc::Global;
 

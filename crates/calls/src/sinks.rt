@@ -1,8 +1,7 @@
 //! Bytes that sinks take.
-use crate::page::Page;
-use crate::row::Row;
 use crate::shelves::TEXT;
 use bit_lists::OutOfMemory;
+use call_rows::{Page, Row};
 use outside::{Buffered, CalmSink, MemorySink, StreamSink, write_all};
 use std::alloc::Global;
 

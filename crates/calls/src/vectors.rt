@@ -3,10 +3,9 @@ ghost use Rattle.std.specs.Prelude.{◌≡◌, ◌≤◌, true, length};
 ghost use Rattle.std.specs.Option.{ForSome};
 ghost use Rattle.gate_set.specs.Shape.{IsOn};
 
-use crate::page::Page;
-use crate::row::Row;
 use amp_dense::{Amplitudes, DenseState, Rules, Stop};
 use bit_lists::Bits;
+use call_rows::{Page, Row};
 use gate_set::{Circuit, Gate};
 use probabilities::{Weigh, counted, measured_count, weigh_dense};
 use qasm_reader::read;

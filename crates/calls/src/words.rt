@@ -1,7 +1,6 @@
 //! The words of a run, and what they ask for.
-use crate::page::Page;
-use crate::row::Row;
 use bit_lists::OutOfMemory;
+use call_rows::{Page, Row};
 use sliq_words::{Asked, Task, ask};
 use std::alloc::Global;
 

@@ -1,0 +1,4 @@
+use Rattle.node_calls.proofs.made.applied.Given as goal
+
+abbrev pub ghosts-applied_counted : goal.ghosts-applied_counted
+ghosts-applied_counted a = record { name = a.blank.name; parts = a.blank.parts }

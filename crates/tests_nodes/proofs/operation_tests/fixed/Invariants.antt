@@ -1,4 +1,0 @@
-use Rattle.tests_nodes.proofs.operation_tests.fixed.Given as goal
-
-abbrev pub ghosts-fixed_counted : goal.ghosts-fixed_counted
-ghosts-fixed_counted a = record { name = a.blank.name; parts = a.blank.parts }

@@ -1,4 +1,0 @@
-use Rattle.tests_nodes.proofs.tools.made.Given as goal
-
-abbrev pub ghosts-made_counted : goal.ghosts-made_counted
-ghosts-made_counted a = record { name = a.blank.name; parts = a.blank.parts }

@@ -1,5 +1,0 @@
-use Rattle.slice_quad.specs.Vectors.{Stands}
-use Rattle.tests_vectors.proofs.upkeep_tests.same_bits.Given as goal
-
-abbrev pub invariant-loop-i : goal.invariant-loop-i
-invariant-loop-i l = Stands l.d.store l.q
