@@ -14,10 +14,11 @@ use Rattle.slice_vec.proofs.DigitLemmas.{twice}
 use Rattle.slice_vec.proofs.Ranges.{InRange}
 use Rattle.slice_quad.specs.declared.coord.Coord.{Coord}
 use Rattle.slice_quad.specs.declared.coord.Coord.TheVariants.{A, B, C, D}
-use Rattle.slice_quad.specs.Bits.{is_odd, half_down, int_bit, bits_of}
+use Rattle.slice_quad.specs.Bits.{int_bit, bits_of}
 use Rattle.slice_quad.specs.Mix.{Vector}
 use Rattle.slice_quad.specs.Turns.{coordinate}
 use Rattle.slice_quad.specs.Vectors.{FitsWidth}
+use Rattle.slice_quad.proofs.BitLemmas.{is_odd, half_down, bit_down, bit_is}
 use Rattle.snapshot.specs.Numbers.{never}
 use Rattle.snapshot.specs.Snapshots.{Snapshot, bits_in, all_bits}
 
@@ -59,14 +60,17 @@ one_bit_tells (negsuc n) (pos m) hy hz e = absurd (let a = hy.low in let b = hz.
     false≢true (sym (ap (λ i. eqb (i % 2) 0) (sym en) ∙ e ∙ ap (λ i. eqb (i % 2) 1) em)))
 one_bit_tells (negsuc n) (negsuc m) hy hz e = let a = hy.low in let b = hz.low in omega (arith, ints, a, b)
 
+down_tells : (m : ℕ) (y z : ℤ) → InRange m y → InRange m z → ((i : ℕ) → i ≤ m → bit_down i y ≡ bit_down i z) → y ≡ z
+unfolding bit_down
+down_tells zero y z hy hz same = one_bit_tells y z hy hz (same 0 (omega arith))
+down_tells (suc m) y z hy hz same =
+    let low : is_odd y ≡ is_odd z = same 0 (omega arith) in
+    let half : half_down y ≡ half_down z = down_tells m (half_down y) (half_down z) (half_range m y hy) (half_range m z hz) (λ i le. same (suc i) (omega (arith, le))) in
+    halved y ∙ ap (λ b. pos (number b) +ℤ (half_down y +ℤ half_down y)) low ∙ ap (λ h. pos (number (is_odd z)) +ℤ (h +ℤ h)) half ∙ sym (halved z)
+
 -- integers of m + 1 bits with the same bits are the same
 pub bits_tell : (m : ℕ) (y z : ℤ) → InRange m y → InRange m z → ((i : ℕ) → i ≤ m → int_bit i y ≡ int_bit i z) → y ≡ z
-unfolding int_bit
-bits_tell zero y z hy hz same = one_bit_tells y z hy hz (same 0 (omega arith))
-bits_tell (suc m) y z hy hz same =
-    let low : is_odd y ≡ is_odd z = same 0 (omega arith) in
-    let half : half_down y ≡ half_down z = bits_tell m (half_down y) (half_down z) (half_range m y hy) (half_range m z hz) (λ i le. same (suc i) (omega (arith, le))) in
-    halved y ∙ ap (λ b. pos (number b) +ℤ (half_down y +ℤ half_down y)) low ∙ ap (λ h. pos (number (is_odd z)) +ℤ (h +ℤ h)) half ∙ sym (halved z)
+bits_tell m y z hy hz same = down_tells m y z hy hz (λ i le. sym (bit_is i y) ∙ same i le ∙ bit_is i z)
 
 -- ---- vectors
 vectors_tell : (w : ℕ) (v u : Vector) → 1 ≤ w → FitsWidth w v → FitsWidth w u → ((z : Coord) (i : ℕ) → i < w → bits_of v z i ≡ bits_of u z i) → v ≡ u
